@@ -1,9 +1,8 @@
 -- Nodes that are in a list stay in it while it grows.
-use Rattle.std.proofs.Common.{◌≡◌, ℕ, ◌<◌, ◌≤◌, ◌+◌, List, [], ◌∷◌, ◌++◌, length, take, get_or, All, Contains, Option, Some, None, Result, Ok, Err, OnOk, sym, subst}
-use Rattle.std.proofs.lemmas.List.{take_all}
-use Rattle.std.proofs.lemmas.List.Elements.{All-nil, All-cons, All-head, All-tail, All-weaker, All-more, Contains-append_left, Contains-push}
+use Rattle.std.proofs.Common.{◌≡◌, ℕ, ◌<◌, ◌+◌, List, [], ◌∷◌, ◌++◌, length, take, get_or, All, Contains, Option, Some, None, Result, Ok, Err, OnOk, sym, subst}
+use Rattle.std.proofs.lemmas.List.Elements.{All-nil, All-cons, All-head, All-tail, All-weaker}
 use Rattle.std.specs.Option.{IfSome}
-use Rattle.open_goals.specs.Below.{NodeId, StackEntry, Run, HasRunNodes, HasTarget, DefiniteAnswer}
+use Rattle.open_goals.specs.Below.{NodeId, StackEntry, Run, HasRunNodes}
 use Rattle.open_goals.specs.Words.{paired, HasCycleNode, HasNodes}
 use Rattle.open_goals.specs.OpenGoal.{OpenGoal}
 use Rattle.run_records.proofs.Nodes.{Kept, kept_by_push, has_pushed, all_more_kept}

@@ -1,5 +1,5 @@
 -- One step of the newest goal's frame.
-use Rattle.std.proofs.Common.{◌≡◌, ℕ, ◌-◌, ◌<◌, List, [], ◌∷◌, length, get_or, slice_set, Option, Some, None, Result, Ok, Err, IfOk, IfErr, refl, sym, ap, ◌∙◌, subst, arith}
+use Rattle.std.proofs.Common.{◌≡◌, ℕ, ◌-◌, ◌<◌, List, [], ◌∷◌, length, get_or, slice_set, Result, Ok, Err, IfOk, IfErr, sym, ap, ◌∙◌, subst, arith}
 use Rattle.open_goals.specs.Below.{DelegateOf, CxOf, Request, StackEntry, CanTake, Fault, Run, Received, IsRunFault, RunOutOfMemory, RunOutOfOrder, RunSteps}
 use Rattle.open_goals.specs.Words.{paired, CanStep, HasStepped, IsStepFault, NoMemoryLeft, OutOfOrder}
 use Rattle.open_goals.proofs.Pairs.{last_pair, length_of_view}

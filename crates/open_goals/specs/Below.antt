@@ -10,19 +10,17 @@ pub use Rattle.path_kinds.specs.declared.path.PathKind.{PathKind}
 pub use Rattle.cycle_heads.specs.declared.usages.HeadUsages.{HeadUsages}
 pub use Rattle.search_context.specs.Delegate.{CanTake, Steps}
 pub use Rattle.search_context.specs.Run.{IsFitting}
-pub use Rattle.search_context.specs.Verdicts.{verdicts, Verdicts}
+pub use Rattle.search_context.specs.Verdicts.{verdicts}
 pub use Rattle.search_context.specs.declared.context.Cx.{Ghosts as CxOf}
 pub use Rattle.search_context.specs.declared.context.Delegate.{Ghosts as DelegateOf}
 pub use Rattle.search_context.specs.declared.context.Fault.{Fault}
 pub use Rattle.search_context.specs.declared.context.Fault.TheVariants.{Memory, Protocol}
 pub use Rattle.search_context.specs.declared.context.NodeId.{NodeId}
 pub use Rattle.search_context.specs.declared.context.Reply.{Reply}
-pub use Rattle.search_context.specs.declared.context.Reply.TheVariants.{Answer, Begin, Noted}
 pub use Rattle.search_context.specs.declared.context.Request.{Request}
 pub use Rattle.search_context.specs.declared.context.Request.TheVariants.{EnterCandidate, FinishCandidate}
 pub use Rattle.search_context.specs.declared.context.Request.TheVariants.{Ignore}
 pub use Rattle.search_context.specs.declared.context.Verdict.{Verdict}
-pub use Rattle.search_context.specs.declared.context.Verdict.TheVariants.{Neither, No, Yes}
 pub use Rattle.search_stack.specs.Lent.{change_last}
 pub use Rattle.goal_paths.specs.Nested.{joined_paths, JoinsPaths, NestedPaths, paths_at}
 pub use Rattle.search_stack.specs.Stack.{allowed_depth, depth_below, fresh_entry, position_of}
@@ -31,9 +29,8 @@ pub use Rattle.search_stack.specs.declared.stack.EntryState.{EntryState}
 pub use Rattle.search_stack.specs.declared.stack.StackEntry.{StackEntry}
 pub use Rattle.search_stack.specs.Hit.{Hit, hit_of}
 pub use Rattle.search_stack.specs.declared.result.EvaluationResult.{EvaluationResult}
-pub use Rattle.run_records.specs.Nodes.{HasRunNodes, HasTarget}
-pub use Rattle.run_records.specs.Progress.{fault_of, no_record, received, Records, requested, RunRecord}
+pub use Rattle.run_records.specs.Nodes.{HasRunNodes}
+pub use Rattle.run_records.specs.Progress.{fault_of, no_record, Records, requested}
 pub use Rattle.run_records.specs.Steps.{IsRunFault, IsVerdict, received_by, RunOutOfMemory, RunOutOfOrder, RunSteps}
-pub use Rattle.run_records.specs.declared.progress.DefiniteAnswer.{DefiniteAnswer}
 pub use Rattle.run_records.specs.declared.runs.Received.{Received}
 pub use Rattle.run_records.specs.declared.runs.Run.{Run}

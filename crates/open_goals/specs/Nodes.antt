@@ -1,7 +1,7 @@
 -- The nodes to which a goal under evaluation leads.
 use Rattle.std.specs.Prelude.{All, Contains, List}
 use Rattle.std.specs.Option.{IfSome}
-use Rattle.open_goals.specs.Below.{NodeId, StackEntry, Run, DefiniteAnswer}
+use Rattle.open_goals.specs.Below.{NodeId, StackEntry}
 use Rattle.open_goals.specs.OpenGoal.{OpenGoal}
 
 -- its run's own, the one to which the answers of its cycles lead, and those of its run's definite answers, also of those in ignored candidates

@@ -1,6 +1,6 @@
 -- Why each definite answer below the goals under evaluation is right: its node has an open graph, as the theory of open
 -- graphs has it, and each edge leads to a node of the goal that it asks.
-use Rattle.std.specs.Prelude.{◌≡◌, ◌≢◌, ◌<◌, ◌≤◌, ℕ, Bool, true, if◌then◌else◌, List, [], ◌∷◌, length, map, is_some, Option, None, Some, slice_get}
+use Rattle.std.specs.Prelude.{◌≡◌, ◌≢◌, ◌≤◌, ℕ, Bool, true, if◌then◌else◌, List, [], ◌∷◌, length, map, is_some, Option, None, Some, slice_get}
 use Rattle.std.specs.Option.{IsSomeAnd, option_map}
 use Rattle.open_graphs.specs.Graph as theory
 use Rattle.search_rules.specs.Below.{IsAnsweredEdge, RunningGoal, stack_of, IsSoundState, PathKind, Request, Evaluate, Reply, Answer, NodeId, Edge, heads_shape, rank_of, CacheNode, open_goal, IsNodeOf, verdict_of, edge_shape, shapes_of, DefiniteAnswer, counted_by, Verdicts, IsBacked, verdict_shape}

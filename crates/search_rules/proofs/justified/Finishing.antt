@@ -4,14 +4,14 @@ use Rattle.std.proofs.Common.{◌≡◌, ◌≢◌, ℕ, suc, Bool, true, false,
 use Rattle.std.specs.Option.{IsSomeAnd}
 use Rattle.std.proofs.lemmas.List.{length-map}
 use Rattle.open_graphs.specs.Graph as theory
-use Rattle.search_rules.specs.Below.{PathKind, Verdict, Yes, No, Neither, Edge, NodeId, Request, Reply, Begin, Answer, Noted, AvailableDepth, OpenGoal, StackEntry, IsNeither, question_of, EndsIn, progress_after, questions_answered, CacheNode, open_node, open_goal, with_run, IsNodeOf, IsRun, verdict_of, Run, DefiniteAnswer, NotesOverflow, TakesStored, Hit, first_entry, usages_over, with_depth, with_nested_goals, TakesAnswer, AnswersNewest, RunRecord, acted, answered, no_record, edges_of, counted_by, IsDefinite, Heads, at_depth, heads_shape, rank_of, UsagesByHead, StackDepth, EntryState, Evaluate, TakesIn, Verdicts, verdict_shape}
+use Rattle.search_rules.specs.Below.{PathKind, Verdict, Yes, No, Neither, Edge, NodeId, Request, Reply, Begin, Answer, Noted, AvailableDepth, OpenGoal, StackEntry, question_of, EndsIn, progress_after, questions_answered, CacheNode, open_node, open_goal, with_run, IsNodeOf, IsRun, verdict_of, Run, DefiniteAnswer, NotesOverflow, TakesStored, Hit, first_entry, usages_over, with_depth, with_nested_goals, TakesAnswer, AnswersNewest, RunRecord, acted, answered, no_record, edges_of, counted_by, IsDefinite, Heads, at_depth, heads_shape, rank_of, UsagesByHead, StackDepth, EntryState, Evaluate, TakesIn, Verdicts, verdict_shape}
 use Rattle.search_rules.specs.Words.{tally_of, heads_of, IsTallied, LieBelow, OpenRun, AreEdges, NewestAsks, HasTally, AreJustified, LeadToGoals, MayAnswer, IsFit, asked_now, run_of, runs_of, EndsNewest, EndsRun, HasResultNode, Ended, LeftOpen}
 use Rattle.search_rules.proofs.counts.TakenTallies.{taken_tallied, taken_keeps, taken_comes_in}
 use Rattle.search_rules.specs.Runs.{Again}
 use Rattle.search_rules.proofs.justified.Justified.{EndsWithNode, pushed_is_justified, recounted_is_justified, again_ends, neither_ends, anew_ends}
 use Rattle.run_records.proofs.ProgressEdges.{yes_edges_are, no_edges_are, edge_is_of_answer}
 use Rattle.lean_runs.proofs.Places.{contains_at, place_among}
-use Rattle.lean_runs.proofs.Verdicts.{verdict_is, in_theory_definite, neither_at, neither_is}
+use Rattle.lean_runs.proofs.Verdicts.{verdict_is, in_theory_definite, neither_at}
 use Rattle.run_records.proofs.Verdicts.{fails_unless}
 
 -- ---- goals that are pushed, or only change their entries

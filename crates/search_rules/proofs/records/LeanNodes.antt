@@ -5,7 +5,6 @@ use Rattle.search_rules.specs.Below.{CacheNode, IsNodeOf, open_goal, verdict_of,
 use Rattle.search_rules.specs.Runs.{EndsRun, HasResultNode, Ended}
 use Rattle.search_rules.specs.Justified.{LeadToGoals}
 use Rattle.lean_runs.proofs.Verdicts.{in_theory_definite, verdict_is}
-use Rattle.open_graphs.specs.Graph as theory
 use Rattle.lean_runs.proofs.Places.{contains_at, place_among}
 
 module _ {I R : Type 0} (says : Verdicts R) (scripts : I → List (Reply R) → Request I R) (nodes : List (CacheNode I R)) (node : NodeId) (input : I) (open_is : open_goal nodes node.0 ≡ Some input) (told : RunRecord I R) (r : R) where
