@@ -9,12 +9,21 @@
 //! | `chain` | the same of a chain of many goals, of which the run has the length, and the depth at which the first is asked |
 //! | `scripts` | requests in any order (`scripts`) |
 //! | `switches` | a table in which one goal needs as many runs as one likes, by rules whose scripts stop early (`switches`) |
+//! | `pairs` | all tables of two goals that ask two questions each (`pairs`) |
+//! | `graph` | a graph made by hand, for the plain check of those (`flaws`) |
+//! | `drawn` | tables drawn at random, beside a solver that works out from the definition alone which goals have a proof graph (`decided`) |
 #![tactic(auto)]
 
 mod cases;
-mod drawn;
+mod decided;
+mod drawing;
+mod flaws;
 mod idle;
+mod pairs;
+mod plain_graph;
+mod random_tables;
 mod scripts;
+mod solved;
 mod switches;
 mod trees;
 
@@ -54,6 +63,9 @@ fn tell(alloc: Global, run: Run<'_>) -> Result<Vec<u8>, Fail> {
         "chain" => cases::tell_chain(alloc, run.options, run.input, run.wanted),
         "scripts" => scripts::tell(alloc, run.options, run.input),
         "switches" => switches::tell(alloc, run.options),
+        "pairs" => pairs::tell(alloc, run.options),
+        "graph" => flaws::tell(alloc, run.input),
+        "drawn" => decided::tell(alloc, run.options),
         _ => Err("a run of another sort")?,
     }
 }
