@@ -1,3 +1,4 @@
 pub mod Below
 pub mod Early
 pub mod EarlyLaws
+pub mod Letters

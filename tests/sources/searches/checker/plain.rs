@@ -1,8 +1,8 @@
 //! A plain check of a graph, written from what a graph has to be and from the table's rules alone. It takes its time.
 //!
 //! It plays each run again by its replies, since it has to agree with the checker on any list of nodes. The plain check of
-//! `graph_tests` never looks at replies: there the edges alone have to show the goal. Only the search for closed walks is
-//! alike, and neither check has a part of the other, on purpose.
+//! `tests/sources/tables` never looks at replies: there the edges alone have to show the goal. Only the search for closed
+//! walks is alike, and neither check has a part of the other, on purpose.
 
 use rule_tables::{Candidate, Candidates, Goal, Outcome, Rules};
 use search_parts::context::{Edge, Node, Reply};

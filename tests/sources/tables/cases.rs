@@ -1,6 +1,6 @@
 //! Runs over tables of rules, in the format of `vectors/README.md` with its options and sections.
 
-use crate::drawn::{start_line, write_graph};
+use crate::drawing::{start_line, write_graph};
 use crate::idle::write_idle;
 use crate::trees::{write_record, write_tree};
 use asked_tables::asked::Answered;

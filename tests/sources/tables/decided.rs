@@ -4,6 +4,10 @@
 //! (`one_kind`) or by both (`both_kinds`), and whether a script asks all questions of its goal (`all`) or stops early
 //! (`early`). Where both kinds may stand in a cycle, the provisional cache is not used. Each goal of each table is answered as
 //! the solver says, no limit is met, many goals are proved, many are refuted, and some are run twice.
+//!
+//! That is proved for all tables, and the checks at run time make a table slow, so the rows draw some hundreds. Whoever wants
+//! more writes greater numbers into them, and calls `tests/unproved tables`: ten times as many take four minutes, and for more
+//! than that the script has to give the run more seconds. The first tables of a row stay the same.
 
 use crate::random_tables::{Kinds, random_goals, text_of};
 use crate::solved::have_proofs;

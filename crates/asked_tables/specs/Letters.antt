@@ -1,7 +1,6 @@
 -- Kinds of steps as tables write them.
 use Rattle.std.specs.Prelude.{ℕ, List, codes}
-use Rattle.path_kinds.specs.declared.path.PathKind.{PathKind}
-use Rattle.path_kinds.specs.declared.path.PathKind.TheVariants.{Coinductive, ForcedAmbiguity, Inductive, Unknown}
+use Rattle.asked_tables.specs.Below.{PathKind, Coinductive, ForcedAmbiguity, Inductive, Unknown}
 
 -- the letter of a kind
 abbrev pub letter_of : PathKind → List ℕ
