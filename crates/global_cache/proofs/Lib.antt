@@ -3,6 +3,7 @@ pub mod Slots
 pub mod Bridge
 pub mod Definites
 pub mod FoundNodes
+pub mod Copied
 pub mod HandedOut
 pub mod Whole
 pub mod ValidCopies

@@ -71,8 +71,10 @@ fn usable_result<'a, X: Cx, T: NestedTest<X>>(
     if let Some(hit) = use_success(success, available, test) {
         return Some(hit);
     }
-    let overflow = results.overflow_at(input, available.0);
-    overflow?.used_at(available.0, true, test)
+    let Some(overflow) = results.overflow_at(input, available.0) else {
+        return None;
+    };
+    overflow.used_at(available.0, true, test)
 }
 
 // The success, where it may be used at the available depth.
@@ -85,7 +87,9 @@ fn use_success<'a, X: Cx, T: NestedTest<X>>(
         ≡ first_accepted (T.accepts test.now)
         (successes available.0 (option_copied success.entry)) }
 {
-    let stored = success?;
+    let Some(stored) = success else {
+        return None;
+    };
     if !available.cache_entry_is_applicable(stored.required_depth) {
         return None;
     }

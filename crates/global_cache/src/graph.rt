@@ -42,22 +42,20 @@ impl<D: Delegate> GlobalCache<D> {
             return Ok(None);
         }
         self.has_runs();
-        let Some(nodes) = self.copied_from(node)? else {
-            return Ok(None);
-        };
-        Ok(Some(ProofGraph { nodes }))
+        self.copied_from(node)
     }
 
     // What is reached from a node, if all of that is finished.
-    fn copied_from(
-        &self,
-        root: NodeId,
-    ) -> Result<Option<Vec<Node<<D::Cx as Cx>::Input, <D::Cx as Cx>::Result>>>, NoMemory>
+    fn copied_from(&self, root: NodeId) -> Result<Option<ProofGraph<D::Cx>>, NoMemory>
         ensures { IfOk result (λ copy. MatchOption copy
             (IsWhole self.now.nodes root.0 → ⊥)
-            (λ nodes. IsCopyFrom self.now.nodes root.0 nodes.items)) }
+            (λ graph. IsCopyFrom self.now.nodes root.0 graph.nodes.items)) }
     {
-        copied_nodes(&self.nodes, root)
+        match copied_nodes(&self.nodes, root) {
+            Ok(Some(nodes)) => Ok(Some(ProofGraph { nodes })),
+            Ok(None) => Ok(None),
+            Err(NoMemory) => Err(NoMemory),
+        }
     }
 }
 

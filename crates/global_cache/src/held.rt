@@ -23,7 +23,12 @@ pub(super) fn place_by_first<I, R>(held: &[Held<I, R>], number: usize) -> Option
     requires { IsRising held.now }
     ensures { IfSome result (λ place. HasNumber held.now place number) }
 {
-    let place = number.checked_sub(held.first()?.number)?;
+    let Some(first) = held.first() else {
+        return None;
+    };
+    let Some(place) = number.checked_sub(first.number) else {
+        return None;
+    };
     is_at(held, place, number).then_some(place)
 }
 

@@ -117,18 +117,19 @@ impl<I: Copy, R: Drop> NodeList<I, R> {
         ensures { MatchOption result (IsGone (slice_get self.now number))
             (λ slot. slice_get self.now number ≡ Some (node_of slot.now)) }
     {
-        let place = place_of(&self.held, number)?;
-        let held = &self.held[place];
-        Some(&held.slot)
+        let Some(place) = place_of(&self.held, number) else {
+            return None;
+        };
+        Some(&self.held[place].slot)
     }
 
     /// The node, if it is held and its run has ended.
     pub(super) fn finished(&self, number: usize) -> Option<&Node<I, R>>
         ensures { option_map (λ n. ended_node n.now) result ≡ finished_node self.now number }
     {
-        match self.get(number)? {
-            Slot::Open(_) => None,
-            Slot::Finished(node) => Some(node),
+        match self.get(number) {
+            Some(Slot::Finished(node)) => Some(node),
+            _ => None,
         }
     }
 

@@ -46,7 +46,7 @@ impl<X: Cx> ResultStore<X> {
     pub(super) fn at(&self, input: X::Input, place: Place) -> Option<&StoredResult<X>>
         ensures { option_copied result ≡ stored_at X.Input.eq self.now input place }
     {
-        self.results.get(&(input, place))
+        entry_at(&self.results, &(input, place))
     }
 
     /// The goal's result that met overflow and is stored under this depth.
@@ -111,6 +111,13 @@ impl<X: Cx> ResultStore<X> {
             None => Ok(()),
         }
     }
+}
+
+// The value at the key.
+fn entry_at<'a, K: Eq + Hash, V>(map: &'a HashMap<K, V>, key: &K) -> Option<&'a V>
+    ensures { option_copied result ≡ get K.eq map.now key.now }
+{
+    map.get(key)
 }
 
 // Puts the value at the key. Only where the key is new, memory can be refused.

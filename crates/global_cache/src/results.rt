@@ -132,7 +132,9 @@ impl<D: Delegate> GlobalCache<D> {
         ensures { result ≡ option_map (λ s. (s.result.result, s.required_depth))
             (stored_at D.Cx.Input.eq self.now.results input Success) }
     {
-        let stored = self.results.at(input, Place::Success)?;
+        let Some(stored) = self.results.at(input, Place::Success) else {
+            return None;
+        };
         Some((stored.result.result, stored.required_depth))
     }
 
@@ -145,7 +147,9 @@ impl<D: Delegate> GlobalCache<D> {
         ensures { result ≡ option_map (λ s. s.result.result)
             (stored_at D.Cx.Input.eq self.now.results input (WithOverflow depth)) }
     {
-        let stored = self.results.overflow_at(input, depth)?;
+        let Some(stored) = self.results.overflow_at(input, depth) else {
+            return None;
+        };
         Some(stored.result.result)
     }
 }

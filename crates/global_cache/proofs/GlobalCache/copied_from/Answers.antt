@@ -1,9 +1,9 @@
-use Rattle.std.proofs.Common.{ap, subst}
-use Rattle.std.specs.Prelude.{IfOk, MatchOption}
-use Rattle.global_cache.specs.Words.{IsCopyFrom, IsWhole}
+use Rattle.std.proofs.Common.{ap, subst, sym}
+use Rattle.std.proofs.lemmas.Option.{MatchOption-at_none}
+use Rattle.global_cache.specs.Words.{IsWhole}
 use Rattle.global_cache.proofs.GlobalCache.copied_from.Goals as goal
 
-pub returns : goal.returns
-returns g c =
-    subst (λ nodes. IfOk c.copied_nodes.result (λ copy. MatchOption copy (IsWhole nodes c.args.root.0 → ⊥) (λ copied. IsCopyFrom nodes c.args.root.0 copied.items)))
-    (ap (λ cache. cache.nodes) c.self.view_is) c.copied_nodes.ensures
+pub returns-in-Ok-None : goal.returns-in-Ok-None
+returns-in-Ok-None g c = λ whole.
+    MatchOption-at_none _ _ c.in-Ok-None.field-0-is c.in-Ok-None.ensures
+    (subst (λ nodes. IsWhole nodes c.args.root.0) (sym (ap (λ cache. cache.nodes) c.self.view_is)) whole)

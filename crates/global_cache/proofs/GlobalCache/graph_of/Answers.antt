@@ -1,9 +1,9 @@
 use Rattle.std.proofs.Common.{[], Some, refl, arith}
 use Rattle.std.specs.Option.{IsSome}
 use Rattle.std.proofs.lemmas.Grind.{common_steps}
-use Rattle.std.proofs.lemmas.Option.{MatchOption-at_none, MatchOption-at_some}
 use Rattle.global_cache.specs.Below.{verdicts}
 use Rattle.global_cache.specs.Words.{finished_node, IsWhole, IsCopyFrom}
+use Rattle.global_cache.proofs.Copied.{is_copy, whole_is_there, there_is_whole, whole_is_good}
 use Rattle.global_cache.proofs.Definites.{definite_is_whole}
 use Rattle.global_cache.proofs.HandedOut.{copy_is_whole}
 use Rattle.global_cache.proofs.ValidCopies.{yes_is_valid, no_is_valid}
@@ -22,31 +22,30 @@ returns-then-is_none-clause-valid_no g c = λ goal r has is.
     let some : IsSome (finished_node c.args.self.now.nodes c.args.node.0) = whole c.args.node.0 ([], refl) in
     grind (arith, common_steps)
 
--- some node that is reached isn't finished
-pub returns-in_default-clause-valid_yes : goal.returns-in_default-clause-valid_yes
-returns-in_default-clause-valid_yes g c = λ goal r has is.
-    MatchOption-at_none _ _ c.in_default.is c.in_ok-nodes.ensures
-    (definite_is_whole (verdicts g.D.Cx.Cx) c.args.self.now.nodes goal r (Some c.args.node) has)
+-- what is handed out is a copy where all that is reached is finished
+pub returns-clause-copied : goal.returns-clause-copied
+returns-clause-copied g c =
+    is_copy (IsWhole c.args.self.now.nodes c.args.node.0) (λ graph. IsCopyFrom c.args.self.now.nodes c.args.node.0 graph.nodes.items) c.copied_from.result c.copied_from.ensures
 
-pub returns-in_default-clause-valid_no : goal.returns-in_default-clause-valid_no
-returns-in_default-clause-valid_no g c = λ goal r has is.
-    MatchOption-at_none _ _ c.in_default.is c.in_ok-nodes.ensures
-    (definite_is_whole (verdicts g.D.Cx.Cx) c.args.self.now.nodes goal r (Some c.args.node) has)
+pub returns-clause-whole : goal.returns-clause-whole
+returns-clause-whole g c =
+    whole_is_there (IsWhole c.args.self.now.nodes c.args.node.0) (λ graph. IsCopyFrom c.args.self.now.nodes c.args.node.0 graph.nodes.items) c.copied_from.result c.copied_from.ensures
 
--- all that is reached is copied
 pub returns-clause-not_whole : goal.returns-clause-not_whole
-returns-clause-not_whole g c = λ _.
-    let copy : IsCopyFrom c.args.self.now.nodes c.args.node.0 c.in-Some.nodes.items = MatchOption-at_some _ _ c.in-Some.nodes c.in-Some.is c.in_ok-nodes.ensures in
-    copy_is_whole c.args.self.now.nodes c.args.node.0 c.in-Some.nodes.items copy.0 copy.1
+returns-clause-not_whole g c =
+    there_is_whole (IsWhole c.args.self.now.nodes c.args.node.0) (λ graph. IsCopyFrom c.args.self.now.nodes c.args.node.0 graph.nodes.items)
+    (λ graph copy. copy_is_whole c.args.self.now.nodes c.args.node.0 graph.nodes.items copy.0 copy.1) c.copied_from.result c.copied_from.ensures
 
 pub returns-clause-valid_yes : goal.returns-clause-valid_yes
 returns-clause-valid_yes g c = λ goal r has is.
-    let copy : IsCopyFrom c.args.self.now.nodes c.args.node.0 c.in-Some.nodes.items = MatchOption-at_some _ _ c.in-Some.nodes c.in-Some.is c.in_ok-nodes.ensures in
-    yes_is_valid (verdicts g.D.Cx.Cx) (g.D.Delegate.script c.args.self.now.cx) c.args.self.now.nodes c.has_runs.ensures c.args.node.0 c.in-Some.nodes.items copy.0 copy.1
-    goal r c.args.node refl has is
+    whole_is_good (IsWhole c.args.self.now.nodes c.args.node.0) (λ graph. IsCopyFrom c.args.self.now.nodes c.args.node.0 graph.nodes.items) _
+    (λ graph copy. yes_is_valid (verdicts g.D.Cx.Cx) (g.D.Delegate.script c.args.self.now.cx) c.args.self.now.nodes c.has_runs.ensures c.args.node.0 graph.nodes.items copy.0 copy.1
+    goal r c.args.node refl has is) c.copied_from.result c.copied_from.ensures
+    (definite_is_whole (verdicts g.D.Cx.Cx) c.args.self.now.nodes goal r (Some c.args.node) has)
 
 pub returns-clause-valid_no : goal.returns-clause-valid_no
 returns-clause-valid_no g c = λ goal r has is.
-    let copy : IsCopyFrom c.args.self.now.nodes c.args.node.0 c.in-Some.nodes.items = MatchOption-at_some _ _ c.in-Some.nodes c.in-Some.is c.in_ok-nodes.ensures in
-    no_is_valid (verdicts g.D.Cx.Cx) (g.D.Delegate.script c.args.self.now.cx) c.args.self.now.nodes c.has_runs.ensures c.args.node.0 c.in-Some.nodes.items copy.0 copy.1
-    goal r c.args.node refl (g.met.D.Cx.Cx.one_sort r) has is
+    whole_is_good (IsWhole c.args.self.now.nodes c.args.node.0) (λ graph. IsCopyFrom c.args.self.now.nodes c.args.node.0 graph.nodes.items) _
+    (λ graph copy. no_is_valid (verdicts g.D.Cx.Cx) (g.D.Delegate.script c.args.self.now.cx) c.args.self.now.nodes c.has_runs.ensures c.args.node.0 graph.nodes.items copy.0 copy.1
+    goal r c.args.node refl (g.met.D.Cx.Cx.one_sort r) has is) c.copied_from.result c.copied_from.ensures
+    (definite_is_whole (verdicts g.D.Cx.Cx) c.args.self.now.nodes goal r (Some c.args.node) has)

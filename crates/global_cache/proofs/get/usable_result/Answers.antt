@@ -11,5 +11,5 @@ returns-in-Some g c =
 
 pub returns : goal.returns
 returns g c =
-    looks_up (g.T.NestedTest.accepts c.args.test.now) g.X.Input.PartialEq.eq c.args.results.now c.args.input c.args.available.0 (option_copied c.at-success.result) (Some c.in_ok-overflow.field-0.now) None (option_map hit_of c.used_at.result)
-    c.at-success.ensures c.in_ok-overflow.ensures (sym (ap (option_map hit_of) c.in_default.is) ∙ c.use_success.ensures) c.used_at.ensures
+    looks_up (g.T.NestedTest.accepts c.args.test.now) g.X.Input.PartialEq.eq c.args.results.now c.args.input c.args.available.0 (option_copied c.at-success.result) (Some c.in-Some-overflow_at.overflow.now) None (option_map hit_of c.used_at.result)
+    c.at-success.ensures c.in-Some-overflow_at.ensures (sym (ap (option_map hit_of) c.in_default.is) ∙ c.use_success.ensures) c.used_at.ensures
