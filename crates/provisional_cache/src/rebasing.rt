@@ -212,9 +212,9 @@ fn rebase_entry<X: Cx>(
 // If the entry didn't use that head, its result is the same whatever that goal came to. Still that goal's heads are
 // recorded, without usages: a goal that uses the entry must not be stored while they are under evaluation.
 //
-// If it did, it is as if the goal that is done were worked out anew below the entry. So each cycle that goes from one of
-// its heads through it and back has to be of the same kind when it goes through the entry, too; and the heads
-// get the paths from the entry through it, so that the next pop compares these as well.
+// If it did, it is as if the goal that is done were worked out anew below the entry. So each cycle that goes from one
+// of its heads through it and back has to be of the same kind when it goes through the entry, too; and the heads get the
+// paths from the entry through it, so that the next pop compares these as well.
 fn replace_head<X: Cx>(
     alloc: Global,
     entry: &mut ProvisionalCacheEntry<X>,

@@ -20,8 +20,8 @@ loop-depth-preserved c =
     ∙ ap (λ rest. with_used rest c.args.to_done c.loop-depth.heads) (sym (next_entry items index no_head c.loop-depth-test.true))
     ∙ c.loop-depth.invariant
 
--- what is left of the highest head's list has the heads of the goal that is done
-pub recorded : (c : goal.After-loop-depth) → c.loop-depth.heads ≡ with_used c.args.done.now c.args.to_done c.remove_highest_cycle_head.new.self
+-- where all heads of the goal that is done were gone through, all are recorded
+recorded : (c : goal.After-loop-depth) → c.loop-depth.heads ≡ with_used c.args.done.now c.args.to_done c.remove_highest_cycle_head.new.self
 recorded c =
     let none = drop_of_length-le c.as_slice-depth-items.result.now {i = c.loop-depth.depth-index} (omega (arith, c.loop-depth-test.false)) in
     ap (λ rest. with_used rest c.args.to_done c.loop-depth.heads) (sym none)
