@@ -1,10 +1,11 @@
 -- What an entry becomes, case by case, and which entries are left.
-use Rattle.std.proofs.Common.{arith, ◌≡◌, ◌-◌, ◌<◌, ◌↔◌, ℕ, zero, suc, Bool, true, false, not, cond, nat_eq, if◌then◌else◌, IsTrue, length, List, [], ◌∷◌, Option, Some, None, refl, sym, ap, ◌∙◌, subst, eq-eqb}
+use Rattle.std.proofs.Common.{arith, ◌≡◌, ◌-◌, ◌<◌, ◌↔◌, ℕ, zero, suc, Bool, true, false, not, cond, nat_eq, if◌then◌else◌, IsTrue, length, List, [], ◌∷◌, Option, Some, None, Result, Ok, Err, OnOk, refl, sym, ap, ◌∙◌, subst, eq-eqb}
 use Rattle.std.proofs.lemmas.Bool.Decides.{nat_tests}
 use Rattle.std.specs.List.{cons_option, filter, filter_map, slice_get}
 use Rattle.std.specs.Option.{is_some, option_map}
 use Rattle.provisional_cache.specs.Below.{StackDepth, CycleHead, HeadUsages, Heads, highest, has_usages, StackEntry}
-use Rattle.provisional_cache.specs.Words.{ProvisionalCacheEntry, left_of, rebased, rebased_unused, rebased_used}
+use Rattle.provisional_cache.specs.Words.{ProvisionalCacheEntry, but_highest, from_new_head, keeps_kinds, left_of, rebased, rebased_unused, rebased_used}
+use Rattle.provisional_cache.specs.Words.{with_unused, with_used}
 
 some_at : (heads : Heads) (i : ℕ) → i < length heads → is_some (slice_get heads i) ≡ true
 some_at [] i within = absurd (omega arith)
@@ -30,12 +31,37 @@ module _ {X I R A T : Type 0} where
       → highest entry.heads ≡ Some head → nat_eq head.0.0 (length stack) ≡ false → left_of entry ≡ rebased stack done change_entry entry
   is_other stack done change_entry entry head top other = rw (top, other) refl
 
-  module _ (stack : List (StackEntry X I R A T)) (done : StackEntry X I R A T) (change_entry : HeadUsages → ProvisionalCacheEntry X I R A T → Option (ProvisionalCacheEntry X I R A T)) (entry : ProvisionalCacheEntry X I R A T) (head : StackDepth × CycleHead) (top : highest entry.heads ≡ Some head) (at : head.0.0 ≡ length stack) where
-    pub is_unused : has_usages head.1.usages ≡ false → rebased stack done change_entry entry ≡ rebased_unused stack done entry
-    is_unused none = rw (top, eq-eqb head.0.0 (length stack) at, none) refl
+  module _ (stack : List (StackEntry X I R A T)) (done : StackEntry X I R A T) (change_entry : HeadUsages → ProvisionalCacheEntry X I R A T → Option (ProvisionalCacheEntry X I R A T)) (entry : ProvisionalCacheEntry X I R A T) (head : CycleHead) where
+    -- what becomes of an entry whose highest head is the goal that is done, by whether it used that goal
+    abbrev pub by_use : Option (ProvisionalCacheEntry X I R A T)
+    by_use = if has_usages head.usages then rebased_used stack done change_entry entry head else rebased_unused stack done entry
 
-    pub is_used : has_usages head.1.usages ≡ true → rebased stack done change_entry entry ≡ rebased_used stack done change_entry entry head.1
-    is_used some = rw (top, eq-eqb head.0.0 (length stack) at, some) refl
+    pub is_by_use : (depth : StackDepth) → highest entry.heads ≡ Some (depth, head) → depth.0 ≡ length stack → by_use ≡ rebased stack done change_entry entry
+    is_by_use depth top at = rw (top, eq-eqb depth.0 (length stack) at) refl
+
+    pub unused_becomes : {U E : Type 0} (heads : Heads) (r : Result U E) → has_usages head.usages ≡ false
+        → OnOk r (heads ≡ with_unused done.state.heads (but_highest entry.heads)) → OnOk r (from_new_head stack done (record entry { heads = heads }) ≡ by_use)
+    unused_becomes heads (Ok _) none is = rw (none, is) refl
+    unused_becomes heads (Err _) none is = tt
+
+    pub used_becomes : {U E : Type 0} (changed : ProvisionalCacheEntry X I R A T) (heads : Heads) (r : Result U E) → has_usages head.usages ≡ true
+        → keeps_kinds stack done entry.path_from_head head.paths_to_head ≡ true → Some changed ≡ change_entry head.usages entry
+        → OnOk r (heads ≡ with_used done.state.heads head.paths_to_head (but_highest changed.heads)) → OnOk r (from_new_head stack done (record changed { heads = heads }) ≡ by_use)
+    used_becomes changed heads (Ok _) some keeps changes is = rw (some, keeps, ← changes, is) refl
+    used_becomes changed heads (Err _) some keeps changes is = tt
+
+    -- and where a cycle would not keep its kind, or the reason drops it
+    pub kinds_differ : (after : ProvisionalCacheEntry X I R A T) → after.heads ≡ [] → has_usages head.usages ≡ true
+        → keeps_kinds stack done entry.path_from_head head.paths_to_head ≡ false → from_new_head stack done after ≡ by_use
+    kinds_differ after none some keeps = rw (none, some, keeps) refl
+
+    pub is_dropped : (after : ProvisionalCacheEntry X I R A T) → after.heads ≡ [] → has_usages head.usages ≡ true
+        → None ≡ change_entry head.usages entry → from_new_head stack done after ≡ by_use
+    is_dropped after none some drops = rw (none, some, ← drops) (either None (keeps_kinds stack done entry.path_from_head head.paths_to_head))
+      where
+        either : {O : Type 0} (o : O) (keeps : Bool) → o ≡ (if keeps then o else o)
+        either o true = refl
+        either o false = refl
 
   -- the entries that are left of a list
   pub only_left : (entries : List (ProvisionalCacheEntry X I R A T)) → filter (λ entry. is_some (left_of entry)) entries ≡ filter_map left_of entries

@@ -1,12 +1,14 @@
 -- Heads when a goal that is done is given up as a head: what is taken out, and that what is left is on the stack.
-use Rattle.std.proofs.Common.{◌≡◌, ℕ, zero, suc, ◌-◌, ◌<◌, ◌≤◌, [], ◌∷◌, ◌++◌, All, Some, length, ap, ◌∙◌, subst, inl, inr, arith}
+use Rattle.std.proofs.Common.{◌≡◌, ◌≢◌, ℕ, zero, suc, ◌-◌, ◌<◌, ◌≤◌, [], ◌∷◌, ◌++◌, All, Some, length, ap, sym, refl, ◌∙◌, subst, inl, inr, arith}
 use Rattle.std.proofs.lemmas.Bool.{cases_lt, cases_eq}
 use Rattle.std.proofs.lemmas.List.Elements.{All-cons, All-contains, All-head, All-tail, All-weaker, Contains-push}
+use Rattle.std.proofs.lemmas.Grind.{common_steps}
+use Rattle.std.proofs.lemmas.List.{take-append-le, take_all}
 use Rattle.std.specs.BTreeMap.{insert_entry}
 use Rattle.std.specs.List.{slice_get}
 use Rattle.std.specs.Option.{IfSome}
 use Rattle.provisional_cache.specs.Below.{StackDepth, CycleHead, HeadUsages, PathsToNested, at_depth, depth_cmp, highest, joined_head, with_head, Heads, extended_by_each, path_of_no_step, no_usages}
-use Rattle.provisional_cache.specs.Words.{with_unused, with_used}
+use Rattle.provisional_cache.specs.Words.{but_highest, with_unused, with_used}
 use Rattle.cycle_heads.proofs.HeadLists.{placed_first, placed_here, placed_later}
 use Rattle.cycle_heads.proofs.HighestHeads.{highest-push}
 
@@ -25,6 +27,17 @@ below_highest old new head n (depth, is) below within =
     let lower : All (λ d. d.0.0 < depth.0) new = subst (λ o. IfSome o (λ e. All (λ d. d.0.0 < e.0.0) new)) top below in
     let last : depth.0 ≤ n = last_within new depth head n (subst (All (λ e. e.0.0 ≤ n)) is within) in
     All-weaker (λ d. d.0.0 < depth.0) (λ d. d.0.0 < n) (weaker_bound depth.0 n last) new lower
+
+-- what is left where the highest head is taken out
+pub lower_heads : (old new : Heads) (head : CycleHead) → (depth : StackDepth) × (old ≡ new ++ (depth, head) ∷ []) → new ≡ but_highest old
+lower_heads old new head (depth, is) =
+    let same : length (new ++ (depth, head) ∷ []) - 1 ≡ length new = grind (arith, common_steps) in
+    subst (λ o. new ≡ but_highest o) (sym is) (sym (take-append-le _ new ((depth, head) ∷ []) (omega (arith, same)) ∙ take_all _ new (omega (arith, same))))
+
+-- there is a head where there are heads
+pub some_heads : (heads : Heads) → heads ≢ [] → 0 < length heads
+some_heads [] some = absurd (some refl)
+some_heads (e ∷ es) some = omega arith
 
 module _ (n : ℕ) where
   all_inserted : (depth : StackDepth) (head : CycleHead) → depth.0 < n → (heads : Heads) → All (λ e. e.0.0 < n) heads → All (λ e. e.0.0 < n) (insert_entry depth_cmp heads depth head)
@@ -67,3 +80,16 @@ module _ (n : ℕ) where
   -- then the highest one is on the stack, if there is one
   pub highest_within : (heads : Heads) → All (λ e. e.0.0 < n) heads → IfSome (highest heads) (λ e. e.0.0 < n)
   highest_within heads all = some_within heads (length heads - 1) all
+
+  -- what was recorded in place of the highest head is on the stack
+  pub unused_within : (old new after done : Heads) (head : CycleHead) → (depth : StackDepth) × (old ≡ new ++ (depth, head) ∷ [])
+      → IfSome (highest old) (λ e. All (λ d. d.0.0 < e.0.0) new) → after ≡ with_unused done new
+      → All (λ e. e.0.0 ≤ n) old → All (λ e. e.0.0 < n) done → IfSome (highest after) (λ e. e.0.0 < n)
+  unused_within old new after done head taken below recorded within on_stack =
+      rw recorded (highest_within _ (all_with_unused done new on_stack (below_highest old new head n taken below within)))
+
+  pub used_within : (to_done : PathsToNested) (old new after done : Heads) (head : CycleHead) → (depth : StackDepth) × (old ≡ new ++ (depth, head) ∷ [])
+      → IfSome (highest old) (λ e. All (λ d. d.0.0 < e.0.0) new) → after ≡ with_used done to_done new
+      → All (λ e. e.0.0 ≤ n) old → All (λ e. e.0.0 < n) done → IfSome (highest after) (λ e. e.0.0 < n)
+  used_within to_done old new after done head taken below recorded within on_stack =
+      rw recorded (highest_within _ (all_with_used to_done done new on_stack (below_highest old new head n taken below within)))

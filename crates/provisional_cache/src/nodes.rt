@@ -31,7 +31,9 @@ fn push_nodes_of_lists<I: Eq + Hash + Copy, X: Cx>(
         ≡ nodes.old.items ++ nodes_in (lists_of lists.now.entries)) }
 {
     for (_, entries) in lists.iter() {
-        push_nodes_of_list(entries.as_slice(), nodes)?;
+        let Ok(()) = push_nodes_of_list(entries.as_slice(), nodes) else {
+            return Err(NoMemory);
+        };
     }
     Ok(())
 }

@@ -1,10 +1,10 @@
 //! What becomes of entries when a goal that they rest on is done.
-ghost use Rattle.std.specs.Prelude.{◌≡◌, ◌≢◌, ◌≤◌, ◌<◌, [], cond, length, All, IfSome, is_some, None, OnErr, OnOk, Some};
+ghost use Rattle.std.specs.Prelude.{◌≡◌, ◌≢◌, ◌≤◌, ◌<◌, [], ℕ, if◌then◌else◌, cond, length, All, IfSome, is_some, None, OnErr, OnOk, Some};
 ghost use Rattle.std.specs.List.{filter_map};
 ghost use Rattle.std.specs.Map.{lookup};
 ghost use Rattle.std.specs.Option.{option_map};
-ghost use Rattle.provisional_cache.specs.Below.{highest};
-ghost use Rattle.provisional_cache.specs.Words.{entries_at, lists_of, from_new_head, left_of, rebased, rebased_unused, rebased_used, changed_for, with_unused, with_used, CanBeRebased, changed_by};
+ghost use Rattle.provisional_cache.specs.Below.{has_usages, highest};
+ghost use Rattle.provisional_cache.specs.Words.{entries_at, lists_of, but_highest, from_new_head, left_of, rebased, rebased_unused, rebased_used, changed_for, with_unused, with_used, CanBeRebased, IsLeft, changed_by};
 
 use crate::changed_lists::{ListRule, change_lists};
 use crate::concerned::concerns_list;
@@ -97,13 +97,7 @@ impl<'a, D: Delegate> ListRule<<D::Cx as Cx>::Input, ProvisionalCacheEntry<D::Cx
             return true;
         }
         let entry_change = change_for::<D>(self.cx, input, self.reason);
-        match rebase_list(self.alloc, entries, self.done, self.stack, &entry_change) {
-            Ok(()) => !entries.is_empty(),
-            Err(NoMemory) => {
-                entries.clear();
-                true
-            }
-        }
+        rebase_list(self.alloc, entries, self.done, self.stack, &entry_change)
     }
 }
 
@@ -138,22 +132,26 @@ pub(super) fn rebase_lists<D: Delegate>(
     change_lists(lists, &rule)
 }
 
-// Rebases the entries of one goal. Those that are left stay in order.
+// Rebases the entries of one goal. Those that are left stay in order. Answers whether the list stays: where an entry is
+// left, and, without entries, where memory was refused.
 fn rebase_list<X: Cx>(
     alloc: Global,
     entries: &mut Vec<ProvisionalCacheEntry<X>>,
     done: &StackEntry<X>,
     stack: &Stack<X>,
     entry_change: &EntryChange<X>,
-) -> Result<(), NoMemory>
+) -> bool
     requires can { All (CanBeRebased (length stack.now)) entries.old.items }
     requires on_stack { All (λ head. head.0.0 < length stack.now) done.now.state.heads }
-    ensures { OnOk result (entries.new.items
-        ≡ filter_map (rebased stack.now done.now (changed_by entry_change.now)) entries.old.items) }
+    ensures { IsLeft result entries.new.items
+        (filter_map (rebased stack.now done.now (changed_by entry_change.now)) entries.old.items) }
 {
-    rebase_each(alloc, entries.as_mut_slice(), done, stack, entry_change)?;
+    let Ok(()) = rebase_each(alloc, entries.as_mut_slice(), done, stack, entry_change) else {
+        entries.clear();
+        return true;
+    };
     entries.retain(|entry| is_left(entry));
-    Ok(())
+    !entries.is_empty()
 }
 
 // Whether the entry is left: it has heads.
@@ -177,7 +175,9 @@ fn rebase_each<X: Cx>(
         ≡ filter_map (rebased stack.now done.now (changed_by entry_change.now)) entries.old) }
 {
     for entry in entries.iter_mut() {
-        rebase_entry(alloc, entry, done, stack, entry_change)?;
+        let Ok(()) = rebase_entry(alloc, entry, done, stack, entry_change) else {
+            return Err(NoMemory);
+        };
     }
     Ok(())
 }
@@ -199,37 +199,23 @@ fn rebase_entry<X: Cx>(
     if depth != stack.next_index() {
         return Ok(());
     }
-    if head.usages.is_empty() {
-        return rebase_unused(entry, done, stack);
-    }
-    rebase_used(alloc, entry, head, done, stack, entry_change)
-}
-
-// Takes its highest head, which it didn't use, from the entry.
-//
-// Its result is the same whatever that goal came to. Still that goal's heads take its place, without usages: a
-// goal that uses the entry must not be stored while they are under evaluation.
-fn rebase_unused<X: Cx>(
-    entry: &mut ProvisionalCacheEntry<X>,
-    done: &StackEntry<X>,
-    stack: &Stack<X>,
-) -> Result<(), NoMemory>
-    requires can { CanBeRebased (length stack.now) entry.old }
-    requires on_stack { All (λ head. head.0.0 < length stack.now) done.now.state.heads }
-    ensures { OnOk result (left_of entry.new ≡ rebased_unused stack.now done.now entry.old) }
-{
-    let _ = entry.heads.remove_highest_cycle_head();
-    insert_unused(&mut entry.heads, &done.state.heads)?;
+    let Ok(()) = replace_head(alloc, entry, head, done, stack, entry_change) else {
+        return Err(NoMemory);
+    };
     lead_from_new_head(entry, done, stack);
     Ok(())
 }
 
-// Takes its highest head, which it used, and which is given, from the entry.
+// Puts the heads of the goal that is done in the place of that goal, which is the entry's highest head and is given.
+// An entry that isn't left has no heads afterwards.
 //
-// It is as if the goal that is done were worked out anew below the entry. So each cycle that goes from one of
-// its heads through it and back has to be of the same kind when it goes through the entry, too; and the heads
-// get the paths from the entry through it, so that the next pop compares these as well.
-fn rebase_used<X: Cx>(
+// If the entry didn't use that head, its result is the same whatever that goal came to. Still that goal's heads are
+// recorded, without usages: a goal that uses the entry must not be stored while they are under evaluation.
+//
+// If it did, it is as if the goal that is done were worked out anew below the entry. So each cycle that goes from one
+// of its heads through it and back has to be of the same kind when it goes through the entry, too; and the heads get the
+// paths from the entry through it, so that the next pop compares these as well.
+fn replace_head<X: Cx>(
     alloc: Global,
     entry: &mut ProvisionalCacheEntry<X>,
     head: CycleHead,
@@ -239,27 +225,41 @@ fn rebase_used<X: Cx>(
 ) -> Result<(), NoMemory>
     requires can { CanBeRebased (length stack.now) entry.old }
     requires on_stack { All (λ head. head.0.0 < length stack.now) done.now.state.heads }
-    ensures { OnOk result
-        (left_of entry.new ≡ rebased_used stack.now done.now (changed_by entry_change.now) entry.old head) }
+    ensures becomes { OnOk result (from_new_head stack.now done.now entry.new
+        ≡ (if has_usages head.usages
+        then rebased_used stack.now done.now (changed_by entry_change.now) entry.old head
+        else rebased_unused stack.now done.now entry.old)) }
+    ensures within { OnOk result
+        (IfSome (highest entry.new.heads) (λ head. head.0.0 < length stack.now)) }
 {
-    if !keeps_kinds(entry.path_from_head, head.paths_to_head, done, stack) {
-        entry.heads = CycleHeads::new(alloc);
-        return Ok(());
+    if head.usages.is_empty() {
+        return replace_unused(&mut entry.heads, &done.state.heads);
     }
-    if !entry_change.change_entry(head.usages, entry) {
-        entry.heads = CycleHeads::new(alloc);
-        return Ok(());
+    if keeps_kinds(entry.path_from_head, head.paths_to_head, done, stack)
+        && entry_change.change_entry(head.usages, entry)
+    {
+        return replace_used(&mut entry.heads, head.paths_to_head, &done.state.heads);
     }
-    let _ = entry.heads.remove_highest_cycle_head();
-    insert_used(&mut entry.heads, head.paths_to_head, &done.state.heads)?;
-    lead_from_new_head(entry, done, stack);
+    give_up(&mut entry.heads, alloc);
     Ok(())
 }
 
-// Records the heads of the goal that is done, over the path of no step and without usages.
-fn insert_unused(heads: &mut CycleHeads, done: &CycleHeads) -> Result<(), NoMemory>
-    ensures { OnOk result (heads.new ≡ with_unused done.now heads.old) }
+// Takes all heads away.
+fn give_up(heads: &mut CycleHeads, alloc: Global)
+    ensures { heads.new ≡ [] }
 {
+    *heads = CycleHeads::new(alloc);
+}
+
+// Records the heads of the goal that is done in place of the highest one, over the path of no step and without usages.
+fn replace_unused(heads: &mut CycleHeads, done: &CycleHeads) -> Result<(), NoMemory>
+    requires some { heads.old ≢ [] }
+    ensures recorded { OnOk result (heads.new ≡ with_unused done.now (but_highest heads.old)) }
+    ensures within { (size : ℕ) → All (λ head. head.0.0 ≤ size) heads.old
+        → All (λ head. head.0.0 < size) done.now
+        → OnOk result (IfSome (highest heads.new) (λ head. head.0.0 < size)) }
+{
+    let _ = heads.remove_highest_cycle_head();
     let mut guess = 0;
     for (depth, _) in done.as_slice() {
         guess = heads.insert_near(guess, *depth, PathsToNested::EMPTY, HeadUsages::default())?;
@@ -267,14 +267,20 @@ fn insert_unused(heads: &mut CycleHeads, done: &CycleHeads) -> Result<(), NoMemo
     Ok(())
 }
 
-// Records the heads of the goal that is done, with its usages, over the paths to that goal and on.
-fn insert_used(
+// Records the heads of the goal that is done in place of the highest one, with its usages, over the paths to that goal
+// and on.
+fn replace_used(
     heads: &mut CycleHeads,
     to_done: PathsToNested,
     done: &CycleHeads,
 ) -> Result<(), NoMemory>
-    ensures { OnOk result (heads.new ≡ with_used done.now to_done heads.old) }
+    requires some { heads.old ≢ [] }
+    ensures recorded { OnOk result (heads.new ≡ with_used done.now to_done (but_highest heads.old)) }
+    ensures within { (size : ℕ) → All (λ head. head.0.0 ≤ size) heads.old
+        → All (λ head. head.0.0 < size) done.now
+        → OnOk result (IfSome (highest heads.new) (λ head. head.0.0 < size)) }
 {
+    let _ = heads.remove_highest_cycle_head();
     let mut guess = 0;
     for (depth, head) in done.as_slice() {
         let paths = to_done.extend_with_paths(head.paths_to_head);

@@ -11,7 +11,7 @@ loop-entries-preserved g c =
     let first = ap lists_of (rest_more deref_pair c.loop-entries.entries-iterator c.next.new.self c.next.result (c.in-Some.field-0-0, c.in-Some.entries) c.in-Some.is c.next.ensures.steps) in
     let old = c.loop-entries.nodes.items in
     let rest = nodes_in (lists_of c.next.new.self) in
-    let pushed = c.in_ok-push_nodes_of_list.ensures.pushed ∙ ap (λ list. old ++ nodes_of list) c.as_slice.ensures.value in
+    let pushed = c.in-Ok.ensures.pushed ∙ ap (λ list. old ++ nodes_of list) c.as_slice.ensures.value in
     record {
       kept = λ n within. c.push_nodes_of_list.ensures.kept n (c.loop-entries.invariant.kept n within);
       pushed = appends_first _ old _ (nodes_of c.in-Some.entries.now.items) rest _ (ap nodes_in first) pushed c.loop-entries.invariant.pushed;

@@ -25,7 +25,7 @@ loop-entry-preserved g c =
     let items = c.loop-entry.entries in
     let i = c.loop-entry.entry-index in
     let within : i < length items = omega (arith, c.loop-entry-test.true, c.loop-entry.auto.entries) in (
-      one_more left_of becomes items i c.entry-item.result c.rebase_entry.new.entry within _ c.in_ok-rebase_entry.ensures c.loop-entry.invariant.0,
+      one_more left_of becomes items i c.entry-item.result c.rebase_entry.new.entry within _ c.in-Ok.ensures c.loop-entry.invariant.0,
       others_can left_of becomes items i c.entry-item.result c.rebase_entry.new.entry within (CanBeRebased (length c.args.stack.now)) c.loop-entry.invariant.1,
     )
 

@@ -1,8 +1,6 @@
-use Rattle.std.proofs.Common.{arith, rules, ◌≡◌, ◌∙◌, false, length, sym, ap, subst}
-use Rattle.std.proofs.lemmas.Grind.{common_steps}
-use Rattle.std.proofs.lemmas.List.{nil_from_length}
+use Rattle.std.proofs.Common.{rules, ◌≡◌, ◌∙◌, false, sym, ap, subst}
 use Rattle.std.specs.List.{filter_map, list_any}
-use Rattle.provisional_cache.specs.Words.{rebased}
+use Rattle.provisional_cache.specs.Words.{rebased, IsLeft}
 use Rattle.provisional_cache.proofs.ConcernedLists.{all_stay, is_concerned}
 use Rattle.provisional_cache.proofs.rebasing.RebasingListRuleInputProvisionalCacheEntryCx.change_list.Goals as goal
 
@@ -16,11 +14,7 @@ returns-then-not-concerns_list g c =
       left = λ _ _. sym (all_stay c.args.self.now.stack.now c.args.self.now.done.now _ c.next_index.result.0 c.next_index.ensures c.args.entries.now.items apart);
     }
 
-pub returns-in-Ok : goal.returns-in-Ok
-returns-in-Ok g c =
-    let items = c.rebase_list.new.entries.items in
-    let left = subst (λ change. items ≡ filter_map (rebased c.args.self.now.stack.now c.args.self.now.done.now change) c.args.entries.now.items) c.change_for-entry_change.ensures c.in-Ok.ensures in
-    record {
-      gone = λ goes. let size : length items ≡ 0 = grind (arith, common_steps, c.is_empty.ensures, goes) in sym left ∙ nil_from_length items size;
-      left = λ _ _. left;
-    }
+pub returns : goal.returns
+returns g c =
+    subst (λ change. IsLeft c.rebase_list.result c.rebase_list.new.entries.items (filter_map (rebased c.args.self.now.stack.now c.args.self.now.done.now change) c.args.entries.now.items))
+    c.change_for-entry_change.ensures c.rebase_list.ensures

@@ -1,6 +1,6 @@
 use Rattle.std.proofs.Common.{◌≡◌, drop}
 use Rattle.provisional_cache.specs.Words.{with_unused}
-use Rattle.provisional_cache.proofs.rebasing.insert_unused.Given as goal
+use Rattle.provisional_cache.proofs.rebasing.replace_unused.Given as goal
 
 -- with the heads that are left these are as many as in the end
 abbrev pub invariant-loop-depth : goal.invariant-loop-depth

@@ -1,6 +1,6 @@
 use Rattle.std.proofs.Common.{◌≡◌, drop}
 use Rattle.provisional_cache.specs.Words.{with_used}
-use Rattle.provisional_cache.proofs.rebasing.insert_used.Given as goal
+use Rattle.provisional_cache.proofs.rebasing.replace_used.Given as goal
 
 -- with the heads that are left these are as many as in the end
 abbrev pub invariant-loop-depth : goal.invariant-loop-depth
