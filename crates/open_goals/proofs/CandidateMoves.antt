@@ -3,10 +3,10 @@ use Rattle.std.proofs.Common.{◌≡◌, ℕ, ◌-◌, ◌<◌, List, [], ◌∷
 use Rattle.std.specs.Option.{IsSomeAnd}
 use Rattle.std.proofs.lemmas.Option.{slice_get_within}
 use Rattle.open_goals.specs.Below.{change_last, StackEntry, EntryState, StackDepth, UsagesByHead, Run}
-use Rattle.open_goals.specs.Words.{paired, newest, CanIgnore, CanIgnoreUsages, CanIgnoreNewest, Ignores, IgnoresUsages, IgnoresNewest}
+use Rattle.goal_changes.specs.Words.{paired, newest, CanIgnore, CanIgnoreUsages, CanIgnoreNewest, Ignores, IgnoresUsages, IgnoresNewest}
 use Rattle.open_goals.proofs.Pairs.{last_pair, LastPair, length_of_view}
 use Rattle.open_goals.proofs.Changes.{newest_state}
-use Rattle.open_goals.specs.OpenGoal.{OpenGoal}
+use Rattle.goal_changes.specs.OpenGoal.{OpenGoal}
 
 -- what is there, where something of it holds
 there_is : {A : Type 0} (o : Option A) (P : A → Type 0) → IsSomeAnd o P → (x : A) × (o ≡ Some x)

@@ -2,9 +2,9 @@
 use Rattle.std.proofs.Common.{◌≡◌, ℕ, ◌-◌, ◌<◌, List, [], ◌∷◌, length, get_or, slice_set, Bool, Option, Some, None, IfSome, Result, Ok, Err, OnOk, option_map, sym, ap, ◌∙◌, subst, arith}
 use Rattle.open_goals.specs.Below.{change_last, StackEntry, EntryState, PathKind, StackDepth, Heads, NestedPaths, Run}
 use Rattle.search_stack.proofs.LastState.{some_element}
-use Rattle.open_goals.specs.Words.{with_depth, with_nested_goals, TakesHeads, AnswersNewest, paired, newest, change_newest}
+use Rattle.goal_changes.specs.Words.{with_depth, with_nested_goals, TakesHeads, AnswersNewest, paired, newest, change_newest}
 use Rattle.open_goals.proofs.Pairs.{last_pair, LastPair, length_of_view}
-use Rattle.open_goals.specs.OpenGoal.{OpenGoal}
+use Rattle.goal_changes.specs.OpenGoal.{OpenGoal}
 
 module _ {E F : Type 0} (es : List E) (fs : List F) (view : List (E × F)) (same : length es ≡ length fs) (is : paired [] es fs ≡ view) (some : 0 < length view) where
   pub some_entries : 0 < length es

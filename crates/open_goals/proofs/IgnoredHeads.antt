@@ -4,7 +4,7 @@ use Rattle.std.specs.Option.{IsSomeAnd}
 use Rattle.std.proofs.lemmas.Bool.{cases_eq}
 use Rattle.open_goals.specs.Below.{StackDepth, CycleHead, HeadUsages, EntryState, UsagesByHead, Heads, at_depth, without_usages}
 use Rattle.cycle_heads.proofs.HeadLists.{at_depth-first, at_depth-rest, at_depth-set_same, at_depth-set_other}
-use Rattle.open_goals.specs.Words.{some_heads, is_in_cycle, less_usages, less_head, with_replaced, usages_at, without_head, CanIgnore, Covers}
+use Rattle.goal_changes.specs.Words.{some_heads, is_in_cycle, less_usages, less_head, with_replaced, usages_at, without_head, CanIgnore, Covers}
 
 -- a head that may be replaced is found at its depth, and other depths keep what they have
 replaced_same : (heads : Heads) (depth : StackDepth) (f : CycleHead → CycleHead) (o : Option CycleHead) → at_depth heads depth ≡ o → at_depth (with_replaced heads depth (option_map f o)) depth ≡ option_map f o

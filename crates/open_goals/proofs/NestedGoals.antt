@@ -2,9 +2,9 @@
 use Rattle.std.proofs.Common.{◌≡◌, ℕ, ◌-◌, ◌<◌, Bool, true, false, List, [], ◌∷◌, length, get_or, Result, Ok, Err, OnOk, sym, ap, ◌∙◌, subst}
 use Rattle.std.specs.Option.{option_map}
 use Rattle.open_goals.specs.Below.{PathKind, StackDepth, Heads, StackEntry, EntryState, change_last, Hit, NestedPaths, joined_paths, paths_at, JoinsPaths, extended, path_of_no_step, paths_of, Run}
-use Rattle.open_goals.specs.Words.{with_depth, with_nested_goals, ChangesNested, TakesHeads, TakesHeadGoal, TakesNestedGoals, Joined, NotesOverflow, TakesStored, paired}
+use Rattle.goal_changes.specs.Words.{with_depth, with_nested_goals, ChangesNested, TakesHeads, TakesHeadGoal, TakesNestedGoals, Joined, NotesOverflow, TakesStored, paired}
 use Rattle.open_goals.proofs.Changes.{NewestState, newest_state}
-use Rattle.open_goals.specs.OpenGoal.{OpenGoal}
+use Rattle.goal_changes.specs.OpenGoal.{OpenGoal}
 
 -- the goals of an answer are joined, and then the goal itself
 pub goals_joined : {I V E : Type 0} (same : I → I → Bool) (own : I) (step : PathKind) (answer old between new : NestedPaths I) (r : Result V E) (none : Bool) → none ≡ false → (answer ≡ [] → none ≡ true) → ((input : I) → paths_at same between input ≡ joined_paths (paths_at same old input) (option_map (λ paths. extended paths step) (paths_at same answer input))) → OnOk r (JoinsPaths same between new own path_of_no_step) → OnOk r (TakesNestedGoals same own step answer old new)

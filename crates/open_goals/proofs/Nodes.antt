@@ -3,8 +3,9 @@ use Rattle.std.proofs.Common.{◌≡◌, ℕ, ◌<◌, ◌+◌, List, [], ◌∷
 use Rattle.std.proofs.lemmas.List.Elements.{All-nil, All-cons, All-head, All-tail, All-weaker}
 use Rattle.std.specs.Option.{IfSome}
 use Rattle.open_goals.specs.Below.{NodeId, StackEntry, Run, HasRunNodes}
-use Rattle.open_goals.specs.Words.{paired, HasCycleNode, HasNodes}
-use Rattle.open_goals.specs.OpenGoal.{OpenGoal}
+use Rattle.goal_changes.specs.Words.{paired}
+use Rattle.open_goals.specs.Nodes.{HasCycleNode, HasNodes}
+use Rattle.goal_changes.specs.OpenGoal.{OpenGoal}
 use Rattle.run_records.proofs.Nodes.{Kept, kept_by_push, has_pushed, all_more_kept}
 
 if_some_kept : (few many : List NodeId) → Kept few many → (node : Option NodeId) → IfSome node (Contains few) → IfSome node (Contains many)

@@ -4,7 +4,7 @@ use Rattle.std.specs.Option.{option_and_then}
 use Rattle.std.proofs.lemmas.Grind.{reverse_onto}
 use Rattle.std.proofs.lemmas.List.{append-nil}
 use Rattle.open_goals.specs.Below.{StackEntry, depth_below, allowed_depth}
-use Rattle.open_goals.specs.Words.{paired, newest}
+use Rattle.goal_changes.specs.Words.{paired, newest}
 
 module _ {E F : Type 0} where
   entries_below : (below : List (E × F)) (es : List E) (fs : List F) → length es ≡ length fs → reverse (map (λ s. s.0) (paired below es fs)) ≡ reverse (map (λ s. s.0) below) ++ es

@@ -5,7 +5,7 @@ use Rattle.std.proofs.lemmas.Bool.Decides.{nat_tests}
 use Rattle.std.proofs.Math.Bool.{or-false}
 use Rattle.std.proofs.lemmas.List.{length-append}
 use Rattle.std.proofs.lemmas.List.Sums.{prefix_len-le-length}
-use Rattle.open_goals.specs.Words.{paired}
+use Rattle.goal_changes.specs.Words.{paired}
 use Rattle.open_goals.specs.Below.{change_last}
 use Rattle.run_records.proofs.Options.{is_none}
 

@@ -1,9 +1,9 @@
 -- One step of the newest goal's frame.
 use Rattle.std.proofs.Common.{◌≡◌, ℕ, ◌-◌, ◌<◌, List, [], ◌∷◌, length, get_or, slice_set, Result, Ok, Err, IfOk, IfErr, sym, ap, ◌∙◌, subst, arith}
 use Rattle.open_goals.specs.Below.{DelegateOf, CxOf, Request, StackEntry, CanTake, Fault, Run, Received, IsRunFault, RunOutOfMemory, RunOutOfOrder, RunSteps}
-use Rattle.open_goals.specs.Words.{paired, CanStep, HasStepped, IsStepFault, NoMemoryLeft, OutOfOrder}
+use Rattle.goal_changes.specs.Words.{paired, CanStep, HasStepped, IsStepFault, NoMemoryLeft, OutOfOrder}
 use Rattle.open_goals.proofs.Pairs.{last_pair, length_of_view}
-use Rattle.open_goals.specs.OpenGoal.{OpenGoal}
+use Rattle.goal_changes.specs.OpenGoal.{OpenGoal}
 
 module _ {D C V P F I R A T : Type 0} (G : DelegateOf D C V P F I R A T) (X : CxOf C I R A T) (cx : C) (given : Received R) where
   module _ (es : List (StackEntry C I R A T)) (fs : List (Run C F I R A T)) (view : List (OpenGoal C F I R A T)) (same : length es ≡ length fs) (is : paired [] es fs ≡ view) (some : 0 < length view) (can : CanStep G X cx given.reply view) where

@@ -4,7 +4,7 @@ use Rattle.std.proofs.Math.Bool.{or-false, or-true}
 use Rattle.std.proofs.lemmas.Bool.{cases_eq}
 use Rattle.open_goals.specs.Below.{PathKind, StackDepth, CycleHead, HeadUsages, EntryState, UsagesByHead, with_noted, no_usages, with_nested, Heads, at_depth, joined_head, with_head, extended}
 use Rattle.cycle_heads.proofs.HeadLists.{at_depth-first, at_depth-rest, at_depth-insert_same, at_depth-insert_other}
-use Rattle.open_goals.specs.Words.{some_heads, joined_over, usages_over, candidate_over, is_in_cycle, with_used_head, TakesHeads}
+use Rattle.goal_changes.specs.Words.{some_heads, joined_over, usages_over, candidate_over, is_in_cycle, with_used_head, TakesHeads}
 
 found_is_some : {x : CycleHead} (heads : Heads) (depth : StackDepth) → at_depth heads depth ≡ Some x → some_heads heads ≡ true
 found_is_some [] depth found = absurd cc

@@ -1,10 +1,2 @@
-pub mod Newest
-pub mod OpenGoal
-pub mod Entries
-pub mod NestedGoals
-pub mod Items
-pub mod Candidates
-pub mod Steps
 pub mod Nodes
 pub mod Below
-pub mod Words

@@ -3,7 +3,7 @@ ghost use Rattle.std.specs.Prelude.{◌≡◌, ℕ, ◌+◌, ◌^◌, ◌<◌, L
 ghost use Rattle.std.specs.List.{list_any};
 ghost use Rattle.std.specs.Option.{option_map};
 ghost use Rattle.open_goals.specs.Below.{CanTake, position_of, verdicts, IsVerdict, IsRunFault, RunSteps, no_record};
-ghost use Rattle.open_goals.specs.Words.{CanStep, HasStepped, IsStepFault};
+ghost use Rattle.goal_changes.specs.Words.{CanStep, HasStepped, IsStepFault};
 
 mod candidates;
 mod nodes;
@@ -19,7 +19,7 @@ use run_records::progress::Progress;
 use run_records::runs::{Received, Run, step_run};
 use run_records::spare::SpareMemory;
 use scopes::HeldScope;
-use search_context::context::{Answer, Cx, Delegate, Fault, NoMemory, NodeId, Request};
+use search_context::context::{Cx, Delegate, Fault, NoMemory, NodeId, Request};
 use search_stack::depth::StackDepth;
 use search_stack::result::{CacheData, EvaluationResult};
 use search_stack::room::give_room_back;
@@ -27,15 +27,6 @@ use search_stack::stack::{Stack, StackEntry};
 use std::alloc::Global;
 use std::marker::Model;
 use std::mem;
-
-/// What comes after a request of the newest goal's frame.
-#[derive(Clone, Copy)]
-pub enum Next<R> {
-    /// The newest frame gets a reply.
-    Step(Received<R>),
-    /// No goal is left, and this is the answer to the last one.
-    Finished(Answer<R>),
-}
 
 /// A goal that was popped, with its run and the scope that was held for it.
 #[derive(Drop)]
@@ -56,8 +47,8 @@ pub struct OpenGoals<X: Cx, F: Drop, S: Drop> {
 
 impl<X: Cx, F: Drop, S: Drop> Model for OpenGoals<X, F, S> {
     ghost use Rattle.std.specs.Prelude.{◌≡◌, List, [], length};
-    ghost use Rattle.open_goals.specs.Newest.{paired};
-    ghost use Rattle.open_goals.specs.OpenGoal.{OpenGoal};
+    ghost use Rattle.goal_changes.specs.Newest.{paired};
+    ghost use Rattle.goal_changes.specs.OpenGoal.{OpenGoal};
 
     ghost Value = { List (OpenGoal X F X.Input X.Result X.AmbiguityInfo X.DepNodeIndex) };
 
@@ -67,11 +58,11 @@ impl<X: Cx, F: Drop, S: Drop> Model for OpenGoals<X, F, S> {
 }
 
 impl<X: Cx, F: Drop, S: Drop> OpenGoals<X, F, S> {
-    ghost use Rattle.open_goals.specs.Newest.{newest, change_newest};
+    ghost use Rattle.goal_changes.specs.Newest.{newest, change_newest};
     ghost use Rattle.open_goals.specs.Below.{hit_of};
-    ghost use Rattle.open_goals.specs.Entries.{cycle_head};
-    ghost use Rattle.open_goals.specs.Items.{rerun_with, with_no_record, AnswersNewest};
-    ghost use Rattle.open_goals.specs.NestedGoals.{LeavesAnswer, NestsAnswer, NestsHead, NestsItself, NotesOverflow, TakesStored};
+    ghost use Rattle.goal_changes.specs.Entries.{cycle_head};
+    ghost use Rattle.goal_changes.specs.Items.{rerun_with, with_no_record, AnswersNewest};
+    ghost use Rattle.goal_changes.specs.NestedGoals.{LeavesAnswer, NestsAnswer, NestsHead, NestsItself, NotesOverflow, TakesStored};
 
     /// No goal.
     pub fn new(alloc: Global) -> OpenGoals<X, F, S>

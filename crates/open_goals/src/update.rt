@@ -1,6 +1,6 @@
 //! What a goal's entry takes over from the answer to one of its questions.
 ghost use Rattle.std.specs.Prelude.{◌≡◌, ◌<◌, ◌+◌, ◌^◌, OnOk, Some};
-ghost use Rattle.open_goals.specs.Words.{cycle_head, with_depth, with_nested_goals, with_used_head, TakesHeads, usages_at, without_head, CanIgnore, Covers, Ignores, LeavesAnswer, TakesNestedGoals};
+ghost use Rattle.goal_changes.specs.Words.{cycle_head, with_depth, with_nested_goals, with_used_head, TakesHeads, usages_at, without_head, CanIgnore, Covers, Ignores, LeavesAnswer, TakesNestedGoals};
 ghost use Rattle.std.specs.Option.{IsSomeAnd};
 
 use cycle_heads::candidates::CandidateHeadUsages;

@@ -40,19 +40,19 @@ pub use Rattle.global_cache.specs.Stored.{AreSoundResults}
 pub use Rattle.global_cache.specs.declared.results.StoredResult.{StoredResult}
 pub use Rattle.evaluations.specs.Enclosed.{IsEnclosed}
 pub use Rattle.evaluations.specs.Price.{HasCounted, IsPaid}
-pub use Rattle.open_goals.specs.Candidates.{CanIgnore, CanNote, Covers, enters, finishes, Ignores, IgnoresNewest}
-pub use Rattle.open_goals.specs.Candidates.{less_head, less_usages, NotesCandidate}
-pub use Rattle.open_goals.specs.Entries.{is_in_cycle}
-pub use Rattle.open_goals.specs.Newest.{change_newest}
+pub use Rattle.goal_changes.specs.Candidates.{CanIgnore, CanNote, Covers, enters, finishes, Ignores, IgnoresNewest}
+pub use Rattle.goal_changes.specs.Candidates.{less_head, less_usages, NotesCandidate}
+pub use Rattle.goal_changes.specs.Entries.{is_in_cycle}
+pub use Rattle.goal_changes.specs.Newest.{change_newest}
 pub use Rattle.run_records.specs.Progress.{answered, IsReplySorted, received, requested}
 pub use Rattle.run_records.specs.Progress.{RunRecord}
-pub use Rattle.open_goals.specs.Steps.{CanStep, HasStepped, IsStepFault, NoMemoryLeft, Stood}
+pub use Rattle.goal_changes.specs.Steps.{CanStep, HasStepped, IsStepFault, NoMemoryLeft, Stood}
 pub use Rattle.run_records.specs.Steps.{received_by}
-pub use Rattle.open_goals.specs.declared.goals.Next.{Next}
-pub use Rattle.open_goals.specs.declared.goals.Next.TheVariants.{Finished, Step}
+pub use Rattle.goal_changes.specs.declared.Next.{Next}
+pub use Rattle.goal_changes.specs.declared.Next.TheVariants.{Finished, Step}
 pub use Rattle.run_records.specs.declared.runs.Received.{Received}
 pub use Rattle.run_records.specs.declared.runs.Run.{Run}
-pub use Rattle.open_goals.specs.OpenGoal.{OpenGoal}
+pub use Rattle.goal_changes.specs.OpenGoal.{OpenGoal}
 pub use Rattle.search_moves.specs.Evaluations.{Awaits, ChangesCache, EndsWith, HasReply, HasRequest, IsNew, IsRight, IsRightFor}
 pub use Rattle.search_moves.specs.Evaluations.{IsRememberedWhere, IsRightNext, KeepsCache, LeadsTo, Requests, StopsWith}
 pub use Rattle.search_rules.specs.Calls.{bound, Call, CallIsEnclosed, HadNoOverflow, IsCounted, limits, Outset, runs}

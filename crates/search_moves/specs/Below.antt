@@ -37,16 +37,16 @@ pub use Rattle.global_cache.specs.Stored.{IsPlainAt}
 pub use Rattle.global_cache.specs.declared.results.Place.{Place}
 pub use Rattle.global_cache.specs.declared.results.Place.TheVariants.{Success}
 pub use Rattle.global_cache.specs.declared.results.StoredResult.{StoredResult}
-pub use Rattle.open_goals.specs.Entries.{cycle_head, first_entry}
-pub use Rattle.open_goals.specs.Items.{AnswersNewest, rerun_with}
-pub use Rattle.open_goals.specs.NestedGoals.{LeavesAnswer, NestsItself, NotesOverflow, TakesStored}
-pub use Rattle.open_goals.specs.Newest.{change_newest, newest}
-pub use Rattle.open_goals.specs.Steps.{Stood}
-pub use Rattle.open_goals.specs.declared.goals.Next.{Next}
-pub use Rattle.open_goals.specs.declared.goals.Next.TheVariants.{Step}
+pub use Rattle.goal_changes.specs.Entries.{cycle_head, first_entry}
+pub use Rattle.goal_changes.specs.Items.{AnswersNewest, rerun_with}
+pub use Rattle.goal_changes.specs.NestedGoals.{LeavesAnswer, NestsItself, NotesOverflow, TakesStored}
+pub use Rattle.goal_changes.specs.Newest.{change_newest, newest}
+pub use Rattle.goal_changes.specs.Steps.{Stood}
+pub use Rattle.goal_changes.specs.declared.Next.{Next}
+pub use Rattle.goal_changes.specs.declared.Next.TheVariants.{Step}
 pub use Rattle.run_records.specs.declared.runs.Received.{Received}
 pub use Rattle.run_records.specs.declared.runs.Run.{Run}
-pub use Rattle.open_goals.specs.OpenGoal.{OpenGoal}
+pub use Rattle.goal_changes.specs.OpenGoal.{OpenGoal}
 pub use Rattle.search_rules.specs.Calls.{bound, Call, CallMeetsNone, IsCounted, limits}
 pub use Rattle.search_rules.specs.Claims.{ComesTo, IsRemembered}
 pub use Rattle.search_rules.specs.EndOfRun.{Ambiguous, Initial, IsEndOfRun, IsReason, Limited, Repeated}

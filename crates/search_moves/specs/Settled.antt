@@ -1,7 +1,7 @@
 -- What holds of an evaluation where two runs of a goal are enough.
 use Rattle.std.specs.Prelude.{◌≡◌, Bool, false, List, []}
 use Rattle.search_moves.specs.Below.{Cache, CacheNode, Call, CxOf, DelegateOf, entries_at, Lists, Next, ProvisionalCacheEntry, Received, Store, OpenGoal, StoredResult, verdicts}
-use Rattle.open_goals.specs.declared.goals.Next.TheVariants.{Finished, Step}
+use Rattle.goal_changes.specs.declared.Next.TheVariants.{Finished, Step}
 use Rattle.search_moves.specs.declared.evaluation.Evaluation.{Evaluation}
 use Rattle.search_rules.specs.Words.{AnswerStaysOff, AreSettled, IsSettling, KeepsKinds, StandApart, StoredReachNested, StoredSuit}
 

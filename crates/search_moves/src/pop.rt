@@ -6,7 +6,8 @@ ghost use Rattle.search_moves.specs.Words.{ChangesCache, Fails, MayPop, Pops};
 
 use crate::evaluation::Evaluation;
 use global_cache::GlobalCache;
-use open_goals::goals::{Next, OpenGoals, Popped};
+use goal_changes::Next;
+use open_goals::goals::{OpenGoals, Popped};
 use path_kinds::path::PathKind;
 use provisional_cache::RebaseReason;
 use run_records::runs::{Received, Run};

@@ -5,7 +5,7 @@ ghost use Rattle.search_moves.specs.Words.{ChangesCache, HasRequest, Moves, IsRi
 
 use crate::evaluation::Evaluation;
 use global_cache::GlobalCache;
-use open_goals::goals::Next;
+use goal_changes::Next;
 use provisional_cache::RebaseReason;
 use run_records::runs::Received;
 use search_context::context::{Cx, Delegate, Fault, Reply};

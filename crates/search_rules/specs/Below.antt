@@ -84,25 +84,25 @@ pub use Rattle.evaluations.specs.Mirror.{AreSeen, HasRequested, IsAmong, ItemLea
 pub use Rattle.evaluations.specs.Mirror.{Waits, with_replies}
 pub use Rattle.evaluations.specs.Plain.{AreSafe, IsSafeOutcome}
 pub use Rattle.evaluations.specs.Starts.{steps_ahead}
-pub use Rattle.open_goals.specs.Candidates.{enters, finishes, Ignores, less_head, less_usages, NotesCandidate}
-pub use Rattle.open_goals.specs.Entries.{cycle_head, first_entry, is_in_cycle, joined_over, overflowed, some_heads}
-pub use Rattle.open_goals.specs.Entries.{TakesAnswer, TakesHeads, usages_over, with_depth, with_nested_goals}
-pub use Rattle.open_goals.specs.Items.{AnswersNewest, rerun_with, with_no_record}
-pub use Rattle.open_goals.specs.NestedGoals.{NestsAnswer, NestsHead, NotesOverflow, TakesStored}
-pub use Rattle.open_goals.specs.Newest.{change_newest, newest}
+pub use Rattle.goal_changes.specs.Candidates.{enters, finishes, Ignores, less_head, less_usages, NotesCandidate}
+pub use Rattle.goal_changes.specs.Entries.{cycle_head, first_entry, is_in_cycle, joined_over, overflowed, some_heads}
+pub use Rattle.goal_changes.specs.Entries.{TakesAnswer, TakesHeads, usages_over, with_depth, with_nested_goals}
+pub use Rattle.goal_changes.specs.Items.{AnswersNewest, rerun_with, with_no_record}
+pub use Rattle.goal_changes.specs.NestedGoals.{NestsAnswer, NestsHead, NotesOverflow, TakesStored}
+pub use Rattle.goal_changes.specs.Newest.{change_newest, newest}
 pub use Rattle.run_records.specs.Progress.{acted, answered, CameTo}
 pub use Rattle.run_records.specs.Progress.{edge_to, edges_of, fault_of}
 pub use Rattle.run_records.specs.Progress.{IsReplySorted, KeepsAnswer, no_record}
 pub use Rattle.run_records.specs.Progress.{open_number, received, requested, RunRecord}
-pub use Rattle.open_goals.specs.Steps.{CanStep, HasStepped, IsStepFault, Item, NoMemoryLeft, OutOfOrder}
+pub use Rattle.goal_changes.specs.Steps.{CanStep, HasStepped, IsStepFault, Item, NoMemoryLeft, OutOfOrder}
 pub use Rattle.run_records.specs.Steps.{IsVerdict}
 pub use Rattle.run_records.specs.Steps.{received_by}
-pub use Rattle.open_goals.specs.Steps.{Stood}
-pub use Rattle.open_goals.specs.declared.goals.Next.{Next}
-pub use Rattle.open_goals.specs.declared.goals.Next.TheVariants.{Finished, Step}
+pub use Rattle.goal_changes.specs.Steps.{Stood}
+pub use Rattle.goal_changes.specs.declared.Next.{Next}
+pub use Rattle.goal_changes.specs.declared.Next.TheVariants.{Finished, Step}
 pub use Rattle.run_records.specs.declared.runs.Received.{Received}
 pub use Rattle.run_records.specs.declared.runs.Run.{Run}
 pub use Rattle.run_records.specs.declared.progress.DefiniteAnswer.{DefiniteAnswer}
-pub use Rattle.open_goals.specs.OpenGoal.{OpenGoal}
+pub use Rattle.goal_changes.specs.OpenGoal.{OpenGoal}
 pub use Rattle.lean_runs.specs.Backed.{Beyond, IsBacked, OfAnswer, verdict_shape}
 pub use Rattle.lean_runs.specs.Lean.{IsBackedEdge, IsRecordFor}

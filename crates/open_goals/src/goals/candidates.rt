@@ -1,7 +1,7 @@
 //! The candidates of the newest goal: each is opened, finished, and may be ignored.
 ghost use Rattle.std.specs.Prelude.{◌≡◌, ◌<◌, ◌∷◌, [], length, is_some, true, IfSome, OnOk, Some};
 ghost use Rattle.std.specs.Option.{option_map};
-ghost use Rattle.open_goals.specs.Words.{enters, records_candidate, leaves, CanIgnoreNewest, CanIgnoreUsages, CanNote, IgnoresNewest, IgnoresUsages, NotesCandidate, newest, change_newest};
+ghost use Rattle.goal_changes.specs.Words.{enters, records_candidate, leaves, CanIgnoreNewest, CanIgnoreUsages, CanNote, IgnoresNewest, IgnoresUsages, NotesCandidate, newest, change_newest};
 
 use crate::goals::OpenGoals;
 use crate::update;

@@ -1,7 +1,7 @@
 //! The nodes to which the goals lead.
 ghost use Rattle.std.specs.Prelude.{All, Contains, OnOk};
 ghost use Rattle.open_goals.specs.Below.{NodeId, HasRunNodes};
-ghost use Rattle.open_goals.specs.Words.{HasCycleNode, HasNodes};
+ghost use Rattle.open_goals.specs.Nodes.{HasCycleNode, HasNodes};
 
 use crate::goals::OpenGoals;
 use run_records::runs::push_run_nodes;

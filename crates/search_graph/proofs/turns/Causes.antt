@@ -5,7 +5,7 @@ use Rattle.search_moves.specs.Storing.{HasLastingCause}
 use Rattle.search_moves.specs.declared.drafts.Drafts.{Drafts}
 use Rattle.search_moves.proofs.results.Causes.{memory_lasts}
 use Rattle.search_rules.specs.Claims.{OutOfOrder}
-use Rattle.open_goals.specs.Steps as steps
+use Rattle.goal_changes.specs.Steps as steps
 use Rattle.search_rules.proofs.moves.Moves.{can_step_record, fault_after_step}
 use Rattle.search_rules.proofs.justified.Replies.{replies_sorted}
 use Rattle.search_rules.proofs.answers.Free.{all_free_above}

@@ -10,7 +10,8 @@ ghost use Rattle.search_moves.specs.Storing.{HasLastingCause};
 ghost use Rattle.search_rules.specs.Lone.{IsLone};
 
 use global_cache::GlobalCache;
-use open_goals::goals::{Next, step};
+use goal_changes::Next;
+use open_goals::goals::step;
 use path_kinds::path::PathKind;
 use run_records::runs::{Fate, Received};
 use search_context::context::{Answer, Cx, Delegate, Fault, Reply, Request};

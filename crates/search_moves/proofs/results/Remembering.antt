@@ -7,7 +7,7 @@ use Rattle.cycle_heads.specs.Heads.{Heads}
 use Rattle.global_cache.specs.Hits.{hit_at, overflows, successes}
 use Rattle.search_stack.specs.Hit.{Hit}
 use Rattle.global_cache.specs.declared.results.Place.TheVariants.{WithOverflow}
-use Rattle.open_goals.specs.declared.goals.Next.TheVariants.{Finished}
+use Rattle.goal_changes.specs.declared.Next.TheVariants.{Finished}
 use Rattle.run_records.specs.declared.runs.Fate.TheVariants as becomes
 use Rattle.search_rules.specs.Moves.{NewestLeaves}
 use Rattle.search_moves.specs.Below.{Call, IsNewestToStore, CxOf, DelegateOf, Done, fates_of, first_accepted, final_answer, HasAsked, HaveTallies, IfFinished, CallMeetsNone, IsNewestStored, IsRemembered, Next, node_given, place_of, runs_of, Store, OpenGoal, stored_at, stored_from, StoredResult, Success}

@@ -1,7 +1,7 @@
 -- Each move keeps provisional entries apart from the goals that are worked out: where no entry is used there are none, and else goals that
 -- reach each other ask by one kind.
 use Rattle.std.proofs.Common.{◌≡◌, ◌++◌, ◌-◌, ◌&&◌, if◌then◌else◌, Bool, true, false, not, filter, IsSome, List, [], ◌∷◌, length, map, reverse, Option, None, Some, inl, inr, refl, ap, ◌∙◌}
-use Rattle.open_goals.specs.declared.goals.Next.TheVariants.{Finished}
+use Rattle.goal_changes.specs.declared.Next.TheVariants.{Finished}
 use Rattle.search_moves.specs.Below.{AvailableDepth, Cache, Call, CxOf, DelegateOf, depends_on, entries_at, entries_for, Evaluate, final_answer, first_accepted, Hit, is_applicable, Lists, Next, node_given, Overflow, PathKind, ProvisionalCacheEntry, Pushes, RebaseReason, rebased_for, RebasesNewest, Received, StackEntry, OpenGoal, Step, Store, StoredResult, usable, runs_of, CacheNode}
 use Rattle.search_moves.specs.declared.evaluation.Evaluation.{Evaluation}
 use Rattle.search_moves.specs.Evaluations.{IsNew}

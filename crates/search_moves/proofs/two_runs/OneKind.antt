@@ -1,7 +1,7 @@
 -- Each move keeps the kinds of questions, and provisional entries apart from goals that are worked out; so a question that no entry answers
 -- is of a goal without entries, and no goal that is nested in a stored result that is used has one.
 use Rattle.std.proofs.Common.{◌≡◌, ◌-◌, ◌||◌, ℕ, Bool, true, false, not, Contains, IsSome, List, [], ◌∷◌, length, Option, None, Some, option_map, Result, Ok, inr, refl, sym, ap, ◌∙◌, subst}
-use Rattle.open_goals.specs.declared.goals.Next.TheVariants.{Finished}
+use Rattle.goal_changes.specs.declared.Next.TheVariants.{Finished}
 use Rattle.global_cache.specs.Hits.{hit_at}
 use Rattle.search_moves.specs.Below.{AreJustified, AvailableDepth, Cache, CacheNode, Call, CxOf, DelegateOf, depends_on, entries_at, Evaluate, final_answer, first_accepted, first_entry, first_run, Hit, is_applicable, LeavesNested, Lists, newest, Next, node_given, Overflow, PathKind, ProvisionalCacheEntry, Pushes, RebaseReason, RebasesNewest, Received, runs_of, StackEntry, OpenGoal, Step, Store, stored_at, StoredResult, StoresNewest, Success, Unstable, usable, verdicts}
 use Rattle.search_moves.specs.declared.evaluation.Evaluation.{Evaluation}

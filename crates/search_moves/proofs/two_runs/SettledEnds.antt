@@ -2,7 +2,7 @@
 use Rattle.std.proofs.Common.{◌≡◌, ◌≢◌, ◌<◌, ◌||◌, ◌-◌, ℕ, Bool, true, false, not, filter, if◌then◌else◌, IsSome, List, [], ◌∷◌, ◌++◌, length, map, Option, None, Some, option_map, Result, Ok, Err, inl, inr, refl, sym, ap, ◌∙◌, subst}
 use Rattle.std.specs.Option.{IfSome, IsSomeAnd}
 use Rattle.std.proofs.lemmas.Bool.{false≢true, or_from}
-use Rattle.open_goals.specs.declared.goals.Next.TheVariants.{Finished}
+use Rattle.goal_changes.specs.declared.Next.TheVariants.{Finished}
 use Rattle.search_context.proofs.Rules.{KeepsRule}
 use Rattle.search_moves.specs.Below.{Again, AreFree, AreJustified, Answer, AtLimit, Begin, Cache, CacheNode, Call, CxOf, DelegateOf, Done, final_answer, HasAsked, HasNewestNode, depends_on, entries_at, IsDefinite, IsEndOfRun, IsNewestStored, LeavesNested, Lists, newest, Next, node_given, open_node, place_of, ProvisionalCacheEntry, RebaseReason, RebasesNewest, Run, runs_of, OpenGoal, StackEntry, Step, Store, stored_at, stored_from, StoredResult, StoresNewest, Success, Unstable, verdict_of, Verdicts, verdicts, AreReady}
 use Rattle.search_moves.specs.declared.evaluation.Evaluation.{Evaluation}

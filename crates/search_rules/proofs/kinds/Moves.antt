@@ -6,8 +6,8 @@ use Rattle.std.proofs.lemmas.List.Elements.{All-contains, All-filter}
 use Rattle.global_cache.proofs.Stores.{put_cases}
 use Rattle.open_graphs.proofs.Members.{contains_later}
 use Rattle.cycle_heads.proofs.HeadLists.{at_depth-rest}
-use Rattle.open_goals.specs.Candidates.{less_head}
-use Rattle.open_goals.specs.NestedGoals.{NestsItself}
+use Rattle.goal_changes.specs.Candidates.{less_head}
+use Rattle.goal_changes.specs.NestedGoals.{NestsItself}
 use Rattle.search_rules.specs.Below.{AnswersNewest, at_depth, CxOf, CycleHead, DelegateOf, EnterCandidate, entries_at, enters, EntryState, EvaluationResult, Evaluate, Done, finishes, FinishCandidate, HasStepped, Heads, Hit, Ignore, Lists, may_be_used, NestedPaths, NestsAnswer, NestsHead, NotesCandidate, paths_at, PathKind, place_of, ProvisionalCacheEntry, RebaseReason, Received, received_by, Reply, Request, requested, rerun_with, StackDepth, StackEntry, OpenGoal, Store, stored_at, stored_from, StoredResult, Success, TakesStored, with_no_record, HeadUsages}
 use Rattle.search_rules.specs.LookUp.{usable_entry}
 use Rattle.search_rules.specs.Moves.{Reruns}

@@ -7,7 +7,7 @@ use Rattle.path_kinds.specs.Paths.{has_empty}
 use Rattle.path_kinds.proofs.PathLaws.{extended-kinds, has_kind-union}
 use Rattle.path_kinds.proofs.PathMembers.{extended-has}
 use Rattle.path_kinds.proofs.PathRanks.{each_kind}
-use Rattle.open_goals.specs.NestedGoals.{Joined, Nothing, TakesHeadGoal, TakesNestedGoals}
+use Rattle.goal_changes.specs.NestedGoals.{Joined, Nothing, TakesHeadGoal, TakesNestedGoals}
 use Rattle.search_rules.specs.Below.{extended, greater_kind, has_kind, Inductive, kinds_in, NestedPaths, path_of_no_step, paths_at, paths_of, PathKind, PathsToNested, Reply, Request, union}
 use Rattle.search_rules.specs.Words.{first, IsReachedBy, last, MayAsk, MayLeadTo, ReachesNested}
 use Rattle.goal_paths.specs.Nested.{joined_paths, JoinsPaths}

@@ -3,8 +3,8 @@ use Rattle.std.proofs.Common.{◌≡◌, ℕ, ◌==◌, if◌then◌else◌, Boo
 use Rattle.std.proofs.lemmas.Bool.{false≢true}
 use Rattle.std.proofs.lemmas.List.Elements.{All-weaker}
 use Rattle.search_rules.specs.Below.{AnswersNewest, at_depth, entries_at, EntryState, Heads, Hit, joined_over, Lists, NestedPaths, NestsAnswer, NestsHead, PathKind, ProvisionalCacheEntry, Reply, Request, TakesStored, OpenGoal, with_depth, with_nested_goals, CycleHead}
-use Rattle.open_goals.specs.Entries.{TakesHeads}
-use Rattle.open_goals.specs.NestedGoals.{NestsItself}
+use Rattle.goal_changes.specs.Entries.{TakesHeads}
+use Rattle.goal_changes.specs.NestedGoals.{NestsItself}
 use Rattle.search_rules.specs.Words.{AreJoined, AreLinked, AsksNewest, EntryIsLinked, IsGoalAt, IsJoinedTo, MayAsk, ReachesNested}
 use Rattle.search_rules.proofs.kinds.NestedPaths.{nested_head, nested_itself, nested_taken}
 use Rattle.search_rules.proofs.kinds.Questions.{asked_reached, reaches_on}

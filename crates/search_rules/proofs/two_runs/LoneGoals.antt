@@ -10,7 +10,7 @@ use Rattle.search_rules.specs.Below.{Success, WithOverflow, StoredResult, OpenGo
 use Rattle.goal_paths.specs.Nested.{joined_paths, JoinsPaths}
 use Rattle.global_cache.specs.Hits.{hit_at, successes, overflows}
 use Rattle.global_cache.proofs.Stores.{put_cases}
-use Rattle.open_goals.specs.NestedGoals.{NestsItself, Nothing, Joined, TakesNestedGoals}
+use Rattle.goal_changes.specs.NestedGoals.{NestsItself, Nothing, Joined, TakesNestedGoals}
 use Rattle.run_records.specs.declared.runs.Fate.TheVariants as becomes
 use Rattle.evaluations.specs.Frames.{Frame, fresh, stepped}
 use Rattle.evaluations.specs.Plain.{IsOnStack}

@@ -1,7 +1,7 @@
 -- Which goals are nested in a goal once it took over those of an answer.
 use Rattle.std.proofs.Common.{◌≡◌, ◌||◌, Bool, true, false, [], Option, None, Some, IsSome, option_map, sym, ap₂, ◌∙◌, subst, ◌⊎◌, inl, inr, refl}
 use Rattle.std.proofs.lemmas.Bool.{cases_Bool, false≢true}
-use Rattle.open_goals.specs.NestedGoals.{Joined, Nothing, TakesHeadGoal, TakesNestedGoals}
+use Rattle.goal_changes.specs.NestedGoals.{Joined, Nothing, TakesHeadGoal, TakesNestedGoals}
 use Rattle.search_rules.specs.Below.{extended, Heads, NestedPaths, path_of_no_step, paths_at, PathKind, PathsToNested, some_heads}
 use Rattle.goal_paths.specs.Nested.{joined_paths, JoinsPaths}
 

@@ -10,7 +10,7 @@ use Rattle.run_records.specs.declared.runs.Fate.{Fate}
 use Rattle.run_records.specs.declared.runs.Fate.TheVariants as becomes
 use Rattle.open_graphs.specs.Graph as theory
 use Rattle.open_graphs.specs.Stack.{IsLeaf}
-use Rattle.open_goals.specs.NestedGoals.{NestsItself, TakesHeadGoal, TakesNestedGoals}
+use Rattle.goal_changes.specs.NestedGoals.{NestsItself, TakesHeadGoal, TakesNestedGoals}
 use Rattle.goal_paths.specs.Nested.{JoinsPaths}
 use Rattle.search_rules.specs.Below.{Answer, AnswersNewest, at_depth, AvailableDepth, CacheNode, entries_at, EntryState, first_accepted, first_entry, Heads, Hit, is_in_cycle, IsDefinite, IsNodeOf, Lists, NestedPaths, NestsAnswer, NestsHead, no_heads, no_record, NodeId, path_of_no_step, PathKind, paths_at, ProvisionalCacheEntry, Reply, Request, Run, shapes_of, stack_of, StackDepth, OpenGoal, StackEntry, Store, stored_at, StoredResult, Success, TakesStored, usable, Use, verdict_of, Verdicts, with_depth, with_nested_goals, WithOverflow}
 use Rattle.global_cache.specs.Hits.{hit_at, overflows, successes}

@@ -9,7 +9,7 @@ use Rattle.open_graphs.specs.Graph as theory
 use Rattle.open_graphs.specs.Stack.{IsLeaf}
 use Rattle.open_graphs.specs.Use as theory_use
 use Rattle.open_graphs.proofs.Keep.{leaf_cases}
-use Rattle.open_goals.specs.NestedGoals.{TakesNestedGoals}
+use Rattle.goal_changes.specs.NestedGoals.{TakesNestedGoals}
 use Rattle.search_rules.specs.Words.{AnswerStaysOff, AreSettledGoals, BeganBefore, HasEntry, HasNoOlder, HasSuchGoal, IsAside, IsBehind, IsKnown, IsLone, IsOff, IsSettledGoal, IsStop, LeadsOnly, RestOnOlder, StandApart, StepOn, WalksToGoals}
 use Rattle.search_rules.specs.Below.{Answer, AnswersNewest, at_depth, CacheNode, heads_shape, IsDefinite, IsNodeOf, Lists, NestsAnswer, NodeId, path_kind, PathKind, paths_at, ProvisionalCacheEntry, rank_of, Reply, Request, shapes_of, stack_of, Store, OpenGoal, StoredResult, Use, UsesNo, verdict_of, Verdicts}
 use Rattle.search_rules.specs.Justified.{AreJustified, AreSupported, cycles_node, frame_of, frames_of, OpenRun}

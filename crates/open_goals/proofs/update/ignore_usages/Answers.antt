@@ -1,7 +1,7 @@
 use Rattle.std.proofs.Common.{◌≡◌, ◌+◌, drop, get_or, sym, ap, ◌∙◌, subst, option_map}
 use Rattle.open_goals.specs.Below.{StackDepth, at_depth, IsRising}
 use Rattle.cycle_heads.proofs.HeadLists.{absent_later, next_entry, no_counts, rising_from}
-use Rattle.open_goals.specs.Words.{less_usages, CanIgnore, is_in_cycle}
+use Rattle.goal_changes.specs.Words.{less_usages, CanIgnore, is_in_cycle}
 use Rattle.open_goals.proofs.IgnoredHeads.{left_at, head_ignored, usages_ignored, cycle_stays, others_kept, first_counts, rest_counts}
 use Rattle.open_goals.proofs.update.ignore_usages.Goals as goal
 

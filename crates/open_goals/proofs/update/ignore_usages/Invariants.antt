@@ -1,6 +1,6 @@
 use Rattle.std.proofs.Common.{◌≡◌, drop, option_map}
 use Rattle.open_goals.specs.Below.{StackDepth, at_depth}
-use Rattle.open_goals.specs.Words.{is_in_cycle, less_usages, CanIgnore}
+use Rattle.goal_changes.specs.Words.{is_in_cycle, less_usages, CanIgnore}
 use Rattle.open_goals.proofs.IgnoredHeads.{left_at}
 use Rattle.open_goals.proofs.update.ignore_usages.Given as goal
 

@@ -2,7 +2,7 @@ use Rattle.std.proofs.Common.{◌≡◌, ◌||◌, ◌+◌, drop, get_or, sym, a
 use Rattle.std.proofs.Math.ListN.{drop_of_length-le}
 use Rattle.open_goals.specs.Below.{StackDepth, at_depth, IsRising}
 use Rattle.cycle_heads.proofs.HeadLists.{absent_later, next_entry, no_head, rising_from}
-use Rattle.open_goals.specs.Words.{some_heads, usages_over, is_in_cycle}
+use Rattle.goal_changes.specs.Words.{some_heads, usages_over, is_in_cycle}
 use Rattle.open_goals.proofs.TakenHeads.{counted_over, head_over, head_taken, candidate_taken, usages_taken, cycle_taken, others_kept, all_taken}
 use Rattle.open_goals.proofs.update.note_each_head.Goals as goal
 

@@ -1,6 +1,6 @@
 use Rattle.std.proofs.Common.{◌≡◌, ◌||◌, drop}
 use Rattle.open_goals.specs.Below.{StackDepth, at_depth}
-use Rattle.open_goals.specs.Words.{some_heads, usages_over, is_in_cycle}
+use Rattle.goal_changes.specs.Words.{some_heads, usages_over, is_in_cycle}
 use Rattle.open_goals.proofs.TakenHeads.{counted_over, head_over}
 use Rattle.open_goals.proofs.update.note_each_head.Given as goal
 

@@ -1,5 +1,5 @@
 use Rattle.std.proofs.Common.{◌∙◌, [], length, sym, ap}
-use Rattle.open_goals.specs.Words.{paired}
+use Rattle.goal_changes.specs.Words.{paired}
 use Rattle.open_goals.proofs.goals.OpenGoals.new.Goals as goal
 
 pub invariant_of-result : goal.invariant_of-result

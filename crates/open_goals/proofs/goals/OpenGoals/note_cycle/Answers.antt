@@ -1,7 +1,7 @@
 use Rattle.std.proofs.Common.{◌-◌, ◌∙◌, ◌∷◌, [], false, OnOk, refl, ap, subst, arith}
 use Rattle.search_stack.proofs.LastState.{length-change_last}
 use Rattle.open_goals.specs.Below.{change_last, JoinsPaths}
-use Rattle.open_goals.specs.Words.{paired, AnswersNewest}
+use Rattle.goal_changes.specs.Words.{paired, AnswersNewest}
 use Rattle.open_goals.proofs.Changes.{some_entries, newest_answered}
 use Rattle.open_goals.proofs.NestedGoals.{head_joined, nested_answered}
 use Rattle.open_goals.proofs.TakenHeads.{one_taken}

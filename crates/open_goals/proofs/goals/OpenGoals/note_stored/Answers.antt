@@ -1,7 +1,7 @@
 use Rattle.std.proofs.Common.{◌∙◌, OnOk, subst}
 use Rattle.search_stack.proofs.LastState.{length-change_last}
 use Rattle.open_goals.specs.Below.{hit_of}
-use Rattle.open_goals.specs.Words.{TakesNestedGoals}
+use Rattle.goal_changes.specs.Words.{TakesNestedGoals}
 use Rattle.open_goals.proofs.Changes.{some_entries}
 use Rattle.open_goals.proofs.NestedGoals.{stored_taken}
 use Rattle.open_goals.proofs.goals.OpenGoals.note_stored.Goals as goal

@@ -1,5 +1,5 @@
 use Rattle.std.proofs.Common.{[], ◌∙◌, ap}
-use Rattle.open_goals.specs.Words.{paired}
+use Rattle.goal_changes.specs.Words.{paired}
 use Rattle.open_goals.proofs.Nodes.{goals_on_ok}
 use Rattle.run_records.proofs.Nodes.{kept_through}
 use Rattle.open_goals.proofs.goals.OpenGoals.push_nodes.Goals as goal

@@ -1,6 +1,6 @@
 use Rattle.std.proofs.Common.{◌-◌, ◌∙◌, ◌+◌, ◌<◌, ◌^◌, ◌||◌, false, [], Some, None, ap, sym, arith, length-set}
 use Rattle.search_stack.proofs.LastState.{length-change_last}
-use Rattle.open_goals.specs.Words.{rerun_under, rerun_with}
+use Rattle.goal_changes.specs.Words.{rerun_under, rerun_with}
 use Rattle.open_goals.proofs.Changes.{some_entries, some_runs, if_newest, newest_run, both_changed}
 use Rattle.open_goals.proofs.goals.OpenGoals.run_again.Goals as goal
 

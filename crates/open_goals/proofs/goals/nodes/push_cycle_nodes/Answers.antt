@@ -1,5 +1,5 @@
 use Rattle.std.proofs.Common.{arith, ◌+◌, ◌∙◌, ap, get_or, take, All}
-use Rattle.open_goals.specs.Words.{HasCycleNode}
+use Rattle.open_goals.specs.Nodes.{HasCycleNode}
 use Rattle.run_records.proofs.Nodes.{all_passed, Kept, kept_by_same, kept_through}
 use Rattle.open_goals.proofs.Nodes.{cycle_passed, cycle_pushed}
 use Rattle.open_goals.proofs.goals.nodes.push_cycle_nodes.Goals as goal

@@ -1,5 +1,5 @@
 use Rattle.std.proofs.Common.{All, take}
-use Rattle.open_goals.specs.Words.{HasCycleNode}
+use Rattle.open_goals.specs.Nodes.{HasCycleNode}
 use Rattle.run_records.proofs.Nodes.{Kept}
 use Rattle.open_goals.proofs.goals.nodes.push_cycle_nodes.Given as goal
 

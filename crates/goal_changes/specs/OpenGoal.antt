@@ -1,5 +1,5 @@
 -- A goal under evaluation.
-use Rattle.open_goals.specs.Below.{StackEntry, Run}
+use Rattle.goal_changes.specs.Below.{StackEntry, Run}
 
 -- its entry on the stack, and its run
 abbrev pub OpenGoal : Type 0 → Type 0 → Type 0 → Type 0 → Type 0 → Type 0 → Type 0

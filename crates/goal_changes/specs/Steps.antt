@@ -1,7 +1,7 @@
 -- The goals under evaluation with their runs, and the step of the newest one's frame.
 use Rattle.std.specs.Prelude.{◌≡◌, ℕ, ◌<◌, List, [], ◌∷◌, None, Some}
-use Rattle.open_goals.specs.Below.{DelegateOf, CxOf, Request, Reply, Fault, Memory, Protocol, Verdict, StackEntry, IsFitting, Steps, verdicts, requested, fault_of, received_by, IsVerdict, Records, Received, Run}
-use Rattle.open_goals.specs.OpenGoal.{OpenGoal}
+use Rattle.goal_changes.specs.Below.{DelegateOf, CxOf, Request, Reply, Fault, Memory, Protocol, Verdict, StackEntry, IsFitting, Steps, verdicts, requested, fault_of, received_by, IsVerdict, Records, Received, Run}
+use Rattle.goal_changes.specs.OpenGoal.{OpenGoal}
 
 module _ {D C V P F I R A T : Type 0} (G : DelegateOf D C V P F I R A T) (X : CxOf C I R A T) (cx : C) where
   -- a goal under evaluation with its run

@@ -1,9 +1,9 @@
 -- The goals below a goal that is under evaluation, and what of an answer changes them besides its heads.
 use Rattle.std.specs.Prelude.{◌≡◌, ◌≢◌, Bool, List, [], ◌∷◌}
 use Rattle.std.specs.Option.{option_map}
-use Rattle.open_goals.specs.Below.{EvaluationResult, PathKind, StackEntry, Hit, NestedPaths, joined_paths, paths_at, JoinsPaths, extended, path_of_no_step, paths_of, Run}
-use Rattle.open_goals.specs.Entries.{overflowed, with_depth, with_nested_goals}
-use Rattle.open_goals.specs.OpenGoal.{OpenGoal}
+use Rattle.goal_changes.specs.Below.{EvaluationResult, PathKind, StackEntry, Hit, NestedPaths, joined_paths, paths_at, JoinsPaths, extended, path_of_no_step, paths_of, Run}
+use Rattle.goal_changes.specs.Entries.{overflowed, with_depth, with_nested_goals}
+use Rattle.goal_changes.specs.OpenGoal.{OpenGoal}
 
 -- The goals below `own` take over those of an answer over the step: each with its paths after the step, and `own` itself by the
 -- path of no step. An answer without goals changes nothing.

@@ -1,10 +1,10 @@
 -- The candidates of the newest goal: what changes of its state and of its run when one is opened, finished or ignored.
 use Rattle.std.specs.Prelude.{◌≡◌, ℕ, ◌≤◌, ◌==◌, if◌then◌else◌, is_some, true, List, [], ◌∷◌, ◌++◌, length, slice_get, slice_set, Option, None, Some, unwrap_or}
 use Rattle.std.specs.Option.{IsSomeAnd, option_map}
-use Rattle.open_goals.specs.Below.{StackDepth, CycleHead, PathKind, HeadUsages, UsagesByHead, Heads, at_depth, replace_head, count_of, without_usages, Request, EnterCandidate, FinishCandidate, Ignore, EntryState, StackEntry, Run}
-use Rattle.open_goals.specs.Entries.{is_in_cycle}
-use Rattle.open_goals.specs.Newest.{change_newest}
-use Rattle.open_goals.specs.OpenGoal.{OpenGoal}
+use Rattle.goal_changes.specs.Below.{StackDepth, CycleHead, PathKind, HeadUsages, UsagesByHead, Heads, at_depth, replace_head, count_of, without_usages, Request, EnterCandidate, FinishCandidate, Ignore, EntryState, StackEntry, Run}
+use Rattle.goal_changes.specs.Entries.{is_in_cycle}
+use Rattle.goal_changes.specs.Newest.{change_newest}
+use Rattle.goal_changes.specs.OpenGoal.{OpenGoal}
 
 -- the counts hold these usages
 abbrev pub Covers : HeadUsages → HeadUsages → Type 0

@@ -1,8 +1,8 @@
 -- What becomes of the newest goal under evaluation and its run.
 use Rattle.std.specs.Prelude.{◌≡◌, ℕ, ◌+◌, Bool, ◌||◌, List, [], ◌∷◌, length, Option}
-use Rattle.open_goals.specs.Below.{NodeId, PathKind, EntryState, StackEntry, Heads, Run, no_record}
-use Rattle.open_goals.specs.Entries.{TakesAnswer, rerun_under}
-use Rattle.open_goals.specs.OpenGoal.{OpenGoal}
+use Rattle.goal_changes.specs.Below.{NodeId, PathKind, EntryState, StackEntry, Heads, Run, no_record}
+use Rattle.goal_changes.specs.Entries.{TakesAnswer, rerun_under}
+use Rattle.goal_changes.specs.OpenGoal.{OpenGoal}
 
 module _ {X F I R A T : Type 0} where
   -- the newest goal takes an answer over the step, with the depth that this required, whether it met overflow, and its heads

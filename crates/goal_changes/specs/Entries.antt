@@ -1,6 +1,6 @@
 -- What changes of a goal's entry while the goal is worked out.
 use Rattle.std.specs.Prelude.{◌≡◌, ℕ, ◌+◌, ◌==◌, max, if◌then◌else◌, Bool, true, false, ◌||◌, is_some, [], ◌∷◌, Option, None, Some, unwrap_or}
-use Rattle.open_goals.specs.Below.{NodeId, PathKind, StackDepth, AvailableDepth, CycleHead, HeadUsages, EntryState, StackEntry, UsagesByHead, with_noted, Heads, at_depth, joined_head, with_head, NestedPaths, extended, paths_of, fresh_entry, no_usages, with_nested, with_usage}
+use Rattle.goal_changes.specs.Below.{NodeId, PathKind, StackDepth, AvailableDepth, CycleHead, HeadUsages, EntryState, StackEntry, UsagesByHead, with_noted, Heads, at_depth, joined_head, with_head, NestedPaths, extended, paths_of, fresh_entry, no_usages, with_nested, with_usage}
 use Rattle.std.specs.Option.{option_map}
 
 -- whether there are heads

@@ -1,0 +1,9 @@
+pub mod Newest
+pub mod OpenGoal
+pub mod Entries
+pub mod NestedGoals
+pub mod Items
+pub mod Candidates
+pub mod Steps
+pub mod Below
+pub mod Words
