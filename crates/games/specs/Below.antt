@@ -1,7 +1,7 @@
 -- What the crates below have, from one place.
 pub use Rattle.path_kinds.specs.declared.path.PathKind.TheVariants.{Inductive}
 pub use Rattle.delegate_parts.specs.Outcome.{outcome_verdicts}
-pub use Rattle.global_cache.specs.Cache.{graph_nodes_of}
+pub use Rattle.graph_nodes.specs.Nodes.{graph_nodes_of}
 pub use Rattle.question_lists.specs.Needs.{Proves, Refutes}
 pub use Rattle.question_lists.specs.declared.needs.Needs.{Needs}
 pub use Rattle.question_lists.specs.declared.needs.Needs.TheVariants.{All, Any}

@@ -1,28 +1,11 @@
 -- The cache's list of nodes in the words of its clauses: what a call of the list makes of the cache.
-use Rattle.std.proofs.Common.{◌≡◌, ℕ, Bool, List, [], ◌∷◌, ◌++◌, Option, None, Some, Result, Ok, Err, is_ok, IsSome, slice_get, refl, sym, ◌∙◌, ap, subst}
-use Rattle.std.specs.Prelude.{IfOk, IfSome, OnErr}
-use Rattle.std.specs.Option.{IsSomeAnd, option_map}
-use Rattle.global_cache.specs.Below.{Node, Request, Reply, Verdicts}
-use Rattle.global_cache.specs.Words.{StoredResult, EndedRun, CacheNode, Cache, finished_node, open_goal, open_node, with_run, IsRun, AreRuns, Store, run_of, ended_node}
-use Rattle.global_cache.proofs.Finished.{found_finished}
-use Rattle.global_cache.proofs.NodeLists.{appended}
-
--- an open node is appended, or none is
-pub is_appended : {I R E : Type 0} (answer : Result ℕ E) (old new : List (CacheNode I R)) (goal : I) → IfOk answer (λ number. new ≡ old ++ open_node goal ∷ []) → OnErr answer (new ≡ old) → new ≡ appended (is_ok answer) old goal
-is_appended (Ok number) old new goal pushed refused = pushed
-is_appended (Err e) old new goal pushed refused = refused
-
-pub is_some_and : {A : Type 0} (P : A → Type 0) (o : Option A) → IsSomeAnd o P → IsSome o
-is_some_and P None h = absurd h
-is_some_and P (Some x) h = refl
-
-pub if_some_and : {A : Type 0} (P : A → Type 0) (o : Option A) → IsSomeAnd o P → IfSome o P
-if_some_and P None h = tt
-if_some_and P (Some x) h = h
-
-pub some_and : {A : Type 0} (P : A → Type 0) (o : Option A) → IsSome o → IfSome o P → IsSomeAnd o P
-some_and P None some h = absurd cc
-some_and P (Some x) some h = h
+use Rattle.std.proofs.Common.{◌≡◌, ℕ, Bool, List, Option, None, Some, IsSome, slice_get, refl, sym, ◌∙◌, ap, subst}
+use Rattle.std.specs.Prelude.{IfSome}
+use Rattle.std.specs.Option.{option_map}
+use Rattle.global_cache.specs.Below.{Node, Request, Reply, Verdicts, EndedRun, CacheNode, finished_node, open_goal, with_run, IsRun, AreRuns, run_of, ended_node}
+use Rattle.global_cache.specs.Words.{StoredResult, Cache, Store}
+use Rattle.graph_nodes.proofs.Finished.{found_finished}
+use Rattle.graph_nodes.proofs.NodeLists.{appended}
 
 -- a cache whose context, nodes and results are these
 module _ {X I R A T : Type 0} (cx : X) (nodes : List (CacheNode I R)) (results : Store I (StoredResult X I R A T)) (cache : Cache X I R A T) (view : record { cx = cx; nodes = nodes; results = results } ≡ cache) where

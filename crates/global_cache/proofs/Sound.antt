@@ -3,10 +3,11 @@
 use Rattle.std.proofs.Common.{◌≡◌, Bool, true, List, [], ◌∷◌, ℕ, Option, Result, Ok, Err, sym, subst, subst₂}
 use Rattle.std.specs.Prelude.{OnOk, OnErr}
 use Rattle.std.specs.Option.{IsSomeAnd, IfSome, option_map}
-use Rattle.global_cache.specs.Below.{Request, Reply, EvaluationResult, NestedPaths, NodeId, Verdicts}
-use Rattle.global_cache.specs.Words.{CacheData, Place, StoredResult, EndedRun, CacheNode, Cache, open_goal, with_run, IsRun, HasGraph, hit_of, first_accepted, usable, IsSoundCache, Store, Puts, place_of, stored_from, IsPlainAt, IsSoundResult, AreLive, AreRooted, Collected}
-use Rattle.global_cache.proofs.Collecting.{AreRuns-collected, AreSoundResults-collected}
-use Rattle.global_cache.proofs.NodeLists.{appended, AreRuns-appended, AreRuns-ended, KeepsGoals-appended, Grown-appended, KeepsGoals-ended, Grown-ended}
+use Rattle.global_cache.specs.Below.{Request, Reply, EvaluationResult, NestedPaths, NodeId, Verdicts, EndedRun, CacheNode, open_goal, with_run, IsRun, HasGraph, AreLive, Collected}
+use Rattle.global_cache.specs.Words.{CacheData, Place, StoredResult, Cache, hit_of, first_accepted, usable, IsSoundCache, Store, Puts, place_of, stored_from, IsPlainAt, IsSoundResult, AreRooted}
+use Rattle.graph_nodes.proofs.Collecting.{AreRuns-collected}
+use Rattle.global_cache.proofs.Collecting.{AreSoundResults-collected}
+use Rattle.graph_nodes.proofs.NodeLists.{appended, AreRuns-appended, AreRuns-ended, KeepsGoals-appended, Grown-appended, KeepsGoals-ended, Grown-ended}
 use Rattle.global_cache.proofs.Stored.{AreSoundResults-grown, AreSoundResults-stored, IsWorth, result_is_worth}
 
 -- a cache without nodes and results

@@ -5,9 +5,9 @@ use Rattle.std.specs.Cmp.{IsEquivalence}
 use Rattle.std.specs.Option.{IfSome, option_map, option_or}
 use Rattle.std.proofs.lemmas.Bool.{leb-true}
 use Rattle.std.proofs.lemmas.List.Folds.{find-append}
-use Rattle.global_cache.specs.Below.{Grown, Request, Reply, Fault, Conflict, Memory, NestedPaths, IsPlainTo, IsPlain, IsBelowRank, Verdicts}
-use Rattle.global_cache.specs.Words.{CacheData, Place, Success, WithOverflow, StoredResult, CacheNode, KeepsGoals, HasGraph, Hit, hit_of, hit_at, successes, overflows, usable, first_accepted, shapes_of, Store, stored_at, AnswersStoring, Puts, IsSoundResult, AreSoundResults}
-use Rattle.global_cache.proofs.Definites.{HasGraph-kept}
+use Rattle.global_cache.specs.Below.{Grown, Request, Reply, Fault, Conflict, Memory, NestedPaths, IsPlainTo, IsPlain, IsBelowRank, Verdicts, CacheNode, KeepsGoals, HasGraph, shapes_of}
+use Rattle.global_cache.specs.Words.{CacheData, Place, Success, WithOverflow, StoredResult, Hit, hit_of, hit_at, successes, overflows, usable, first_accepted, Store, stored_at, AnswersStoring, Puts, IsSoundResult, AreSoundResults}
+use Rattle.graph_nodes.proofs.Definites.{HasGraph-kept}
 use Rattle.search_context.proofs.Ranks.{one_plain_value}
 use Rattle.global_cache.proofs.Stores.{put_cases}
 

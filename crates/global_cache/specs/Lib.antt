@@ -1,14 +1,7 @@
 pub mod Store
 pub mod Hits
 pub mod Cache
-pub mod HandedOut
-pub mod Found
-pub mod Collected
-pub mod View
-pub mod Held
-pub mod Marked
-pub mod Shapes
-pub mod Definite
+pub mod Rooted
 pub mod Stored
 pub mod Sound
 pub mod Below

@@ -2,7 +2,8 @@
 use Rattle.std.specs.Prelude.{Bool, List}
 use Rattle.search_context.specs.declared.context.Request.{Request}
 use Rattle.search_context.specs.declared.context.Reply.{Reply}
-use Rattle.global_cache.specs.Cache.{Cache, AreRuns}
+use Rattle.graph_nodes.specs.Nodes.{AreRuns}
+use Rattle.global_cache.specs.Cache.{Cache}
 use Rattle.global_cache.specs.Stored.{AreSoundResults}
 use Rattle.search_context.specs.Verdicts.{Verdicts}
 

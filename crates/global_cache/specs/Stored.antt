@@ -5,8 +5,8 @@ use Rattle.search_context.specs.declared.context.Reply.{Reply}
 use Rattle.global_cache.specs.declared.results.Place.{Place}
 use Rattle.global_cache.specs.declared.results.Place.TheVariants.{Success, WithOverflow}
 use Rattle.global_cache.specs.declared.results.StoredResult.{StoredResult}
-use Rattle.global_cache.specs.Cache.{CacheNode}
-use Rattle.global_cache.specs.Definite.{HasGraph}
+use Rattle.graph_nodes.specs.Nodes.{CacheNode}
+use Rattle.graph_nodes.specs.Definite.{HasGraph}
 use Rattle.search_context.specs.Rank.{IsPlain, IsBelowRank}
 use Rattle.global_cache.specs.Store.{Store, stored_at}
 use Rattle.search_context.specs.Verdicts.{Verdicts}

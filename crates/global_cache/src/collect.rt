@@ -1,6 +1,7 @@
 //! Nodes are let go to which nothing leads any more.
 ghost use Rattle.std.specs.Prelude.{◌≡◌, ◌<◌, ℕ, Bool, length, slice_get, OnOk, OnErr};
-ghost use Rattle.global_cache.specs.Words.{with_root, AreLive, AreRooted, Collected, StayBefore};
+ghost use Rattle.global_cache.specs.Below.{with_root, AreLive, Collected, StayBefore};
+ghost use Rattle.global_cache.specs.Words.{AreRooted};
 
 use crate::GlobalCache;
 use search_context::context::{Delegate, NoMemory, NodeId};

@@ -1,7 +1,7 @@
 //! How results of goals are found again.
 ghost use Rattle.std.specs.Prelude.{◌≡◌, ◌≤◌, Bool, true, false, ◌∷◌, [], IfSome};
 ghost use Rattle.std.specs.Option.{option_copied, option_map};
-ghost use Rattle.global_cache.specs.Definite.{HasGraph};
+ghost use Rattle.graph_nodes.specs.Definite.{HasGraph};
 ghost use Rattle.global_cache.specs.Hits.{first_accepted, hit_at, successes, usable};
 ghost use Rattle.search_stack.specs.Hit.{hit_of};
 ghost use Rattle.goal_paths.specs.Nested.{NestedPaths};

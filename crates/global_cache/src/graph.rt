@@ -1,14 +1,11 @@
 //! The graph of an answer as data, which can be looked at without the cache.
-ghost use Rattle.std.specs.Prelude.{◌≡◌, ℕ, ◌<◌, true, map, length, slice_index, MatchOption, IfOk, IsSome, IfSome, slice_get, None, Some, Ok};
+ghost use Rattle.std.specs.Prelude.{◌≡◌, true, MatchOption, IfOk, IsSome, IfSome, slice_get, None, Some, Ok};
 ghost use Rattle.std.specs.Option.{IsSomeAnd};
-ghost use Rattle.global_cache.specs.Below.{Inductive, Coinductive, IsValid, Edge, verdicts};
-ghost use Rattle.global_cache.specs.Words.{HasGraph, Finds, IsCopyFrom, IsWhole, original_node, ended_node};
+ghost use Rattle.global_cache.specs.Below.{Inductive, Coinductive, IsValid, HasGraph, IsCopyFrom, IsWhole, verdicts};
 
 use crate::GlobalCache;
-use crate::found::Found;
-use crate::node_list::NodeList;
-use search_context::context::{Cx, Delegate, NoMemory, Node, NodeId, ProofGraph};
-use std::alloc::Global;
+use graph_nodes::copies::copied_nodes;
+use search_context::context::{Delegate, NoMemory, NodeId, ProofGraph};
 
 impl<D: Delegate> GlobalCache<D> {
     /// The graph of a node as data: all runs that are reached from it, itself first and the others in any
@@ -57,45 +54,4 @@ impl<D: Delegate> GlobalCache<D> {
             Err(NoMemory) => Err(NoMemory),
         }
     }
-}
-
-// What is reached from a node of the list, if all of that is finished.
-fn copied_nodes<I: Copy, R: Copy>(
-    nodes: &NodeList<I, R>,
-    root: NodeId,
-) -> Result<Option<Vec<Node<I, R>>>, NoMemory>
-    ensures { IfOk result (λ copy. MatchOption copy (IsWhole nodes.now root.0 → ⊥)
-        (λ copy. IsCopyFrom nodes.now root.0 copy.items)) }
-{
-    let alloc = nodes.allocator();
-    let mut found = Found::new(alloc);
-    found.place_of(root.0)?;
-    let mut copy = Vec::new(alloc);
-    while let Some(number) = found.number_at(copy.len()) {
-        let Some(finished) = nodes.finished(number) else {
-            return Ok(None);
-        };
-        copy.push(copied(alloc, &mut found, finished)?)?;
-    }
-    Ok(Some(copy))
-}
-
-// A copy of the node, whose edges lead to the places of their targets.
-fn copied<I: Copy, R: Copy>(
-    alloc: Global,
-    found: &mut Found,
-    node: &Node<I, R>,
-) -> Result<Node<I, R>, NoMemory>
-    ensures same { IfOk result (λ copy.
-        ended_node node.now ≡ original_node (slice_index found.new) copy) }
-    ensures inside { IfOk result (λ copy. (i : ℕ) (e : Edge I) →
-        slice_get copy.edges.items i ≡ Some e → e.target < length found.new) }
-    ensures finds { Finds found.old found.new (map (λ e. e.target) node.now.edges.items) }
-{
-    Ok(Node {
-        input: node.input,
-        replies: Vec::from_slice(alloc, &node.replies)?,
-        edges: found.placed(alloc, &node.edges)?,
-        result: node.result,
-    })
 }

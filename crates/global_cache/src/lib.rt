@@ -1,39 +1,30 @@
 //! What a search has between its calls: the runs that have ended, as the list of nodes that the graphs
-//! of its answers are made of, and the results of goals.
+//! of its answers are made of (`graph_nodes` has it), and the results of goals.
 //!
 //! | File of `specs/` | Has |
 //! |---|---|
 //! | `Cache`, `Sound` | what a cache holds, and what holds of every cache |
-//! | `View`, `Held` | how the nodes that are held are seen as the list of all nodes |
-//! | `Collected`, `Marked` | what is left when nodes are let go, and how it is found out which these are |
-//! | `HandedOut`, `Found` | which nodes have a graph to hand out, what that is a copy of, and how its nodes are found |
 //! | `Store`, `Hits` | the results that a cache stores, and which of them a look-up gives |
-//! | `Stored` | what each stored result is worth |
-//! | `Shapes`, `Definite` | the nodes as the theory of open graphs sees them, and the graph of a definite result |
+//! | `Stored`, `Rooted` | what each stored result is worth, and that its node is a root when nodes are let go |
 #![tactic(auto)]
 
 ghost use Rattle.std.specs.Prelude.{◌≡◌, []};
-ghost use Rattle.global_cache.specs.Below.{verdicts};
-ghost use Rattle.global_cache.specs.Words.{AreRuns, AreSoundResults};
+ghost use Rattle.global_cache.specs.Below.{verdicts, AreRuns};
+ghost use Rattle.global_cache.specs.Words.{AreSoundResults};
 
 use search_context::context::{Cx, Delegate};
 use std::alloc::Global;
 use std::marker::Model;
 
 mod collect;
-mod found;
 pub mod get;
 mod graph;
-mod held;
-mod hints;
-mod marking;
-mod node_list;
 mod nodes;
 mod result_store;
 pub mod results;
 
 pub use get::NestedTest;
-use node_list::NodeList;
+use graph_nodes::node_list::NodeList;
 use result_store::ResultStore;
 pub use results::{Place, StoredResult};
 pub use search_stack::result::CacheData;

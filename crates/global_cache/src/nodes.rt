@@ -1,11 +1,9 @@
-//! The list of nodes: the runs of goals that have ended, which the graphs of answers are made of.
+//! The nodes: the runs of goals that have ended, which the graphs of answers are made of.
 ghost use Rattle.std.specs.Prelude.{◌≡◌, ◌∷◌, ◌++◌, [], count_by, length, IfOk, OnErr, IfSome, IsSome};
 ghost use Rattle.std.specs.Option.{is_some, option_map};
-ghost use Rattle.global_cache.specs.Below.{verdicts};
-ghost use Rattle.global_cache.specs.Words.{open_node as new_node, open_goal, finished_node, with_run, IsRun, KeepsNodes, KeepsFinished, KeepsGoals, HasGrown, ended_run, run_of, ended_node, is_held};
+ghost use Rattle.global_cache.specs.Below.{verdicts, open_node as new_node, open_goal, finished_node, with_run, IsRun, KeepsNodes, KeepsFinished, KeepsGoals, HasGrown, ended_run, run_of, ended_node, is_held};
 
 use crate::GlobalCache;
-use crate::node_list::Slot;
 use search_context::context::{Cx, Delegate, Edge, NoMemory, Node, NodeId, Reply};
 
 impl<D: Delegate> GlobalCache<D> {
@@ -27,7 +25,7 @@ impl<D: Delegate> GlobalCache<D> {
     pub fn node_is_open(&self, node: NodeId) -> bool
         ensures { result ≡ is_some (open_goal self.now.nodes node.0) }
     {
-        matches!(self.nodes.get(node.0), Some(Slot::Open(_)))
+        self.nodes.is_open(node.0)
     }
 
     /// Ends the run of an open node. The replies stand in their order, the oldest first. The edges are

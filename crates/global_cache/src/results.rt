@@ -2,8 +2,8 @@
 //! result that met overflow.
 ghost use Rattle.std.specs.Prelude.{◌≡◌, ℕ, false, [], IfErr, OnOk, OnErr};
 ghost use Rattle.std.specs.Option.{option_map};
-ghost use Rattle.global_cache.specs.Below.{IsPlainTo, Memory, verdicts};
-ghost use Rattle.global_cache.specs.Words.{HasGraph, IsPlainAt, Success, WithOverflow, is_of_overflow, place_of, stored_at, stored_from, AnswersStoring, KeepsResults, Puts};
+ghost use Rattle.global_cache.specs.Below.{IsPlainTo, Memory, verdicts, HasGraph};
+ghost use Rattle.global_cache.specs.Words.{IsPlainAt, Success, WithOverflow, is_of_overflow, place_of, stored_at, stored_from, AnswersStoring, KeepsResults, Puts};
 
 use crate::GlobalCache;
 use search_context::context::{Cx, Delegate, Fault, NodeId, Tracked};

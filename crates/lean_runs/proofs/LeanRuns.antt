@@ -1,8 +1,8 @@
 -- A run that is replayed: what it was answered again.
 use Rattle.std.proofs.Common.{◌≡◌, ◌↔◌, ◌<◌, ℕ, Bool, true, false, IsTrue, List, [], ◌∷◌, ◌++◌, Option, None, Some, slice_get, refl, sym, ap, ◌∙◌, subst, inl, inr, zero, suc, ◌⊎◌}
 use Rattle.std.specs.List.{Contains}
-use Rattle.global_cache.specs.Cache.{finished_node}
-use Rattle.global_cache.proofs.Bridge.{edge_step}
+use Rattle.graph_nodes.specs.Nodes.{finished_node}
+use Rattle.graph_nodes.proofs.Bridge.{edge_step}
 use Rattle.std.specs.Option.{is_some}
 use Rattle.run_records.proofs.Options.{is_none}
 use Rattle.std.proofs.lemmas.Bool.{and_parts}

@@ -1,7 +1,7 @@
 -- Verdicts in the theory's words.
 use Rattle.std.proofs.Common.{◌≡◌, ◌≢◌, Bool, true, false, IsTrue, if◌then◌else◌, ◌↔◌, refl, sym}
 use Rattle.open_graphs.specs.Graph as theory
-use Rattle.global_cache.proofs.Definites.{no_verdict, yes_verdict}
+use Rattle.graph_nodes.proofs.Definites.{no_verdict, yes_verdict}
 use Rattle.lean_runs.specs.Below.{Verdict, Yes, No, Neither, IsNeither, verdict_of, Verdicts}
 use Rattle.lean_runs.specs.Words.{verdict_shape}
 

@@ -15,8 +15,8 @@ pub use Rattle.search_context.specs.declared.context.Request.TheVariants.{Done, 
 pub use Rattle.search_context.specs.declared.context.Request.TheVariants.{FinishCandidate, Ignore}
 pub use Rattle.search_context.specs.declared.context.Verdict.{Verdict}
 pub use Rattle.search_context.specs.declared.context.Verdict.TheVariants.{Neither, No, Yes}
-pub use Rattle.global_cache.specs.Cache.{CacheNode, EndedRun, IsNodeOf, IsRun}
-pub use Rattle.global_cache.specs.Shapes.{shapes_of}
+pub use Rattle.graph_nodes.specs.Nodes.{CacheNode, EndedRun, IsNodeOf, IsRun}
+pub use Rattle.graph_nodes.specs.Shapes.{shapes_of}
 pub use Rattle.run_records.specs.Progress.{CameTo, edge_to, edges_of, fault_of, IsEdgeOfAnswer, IsReplySorted}
 pub use Rattle.run_records.specs.Progress.{KeepsAnswer, no_record, received, Records, requested, RunRecord}
 pub use Rattle.run_records.specs.Steps.{IsVerdict}

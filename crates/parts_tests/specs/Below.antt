@@ -9,9 +9,9 @@ pub use Rattle.search_context.specs.declared.context.NodeId.{NodeId}
 pub use Rattle.search_context.specs.declared.context.Reply.TheVariants.{Begin}
 pub use Rattle.provisional_cache.specs.Provisional.{AppendsEntry, entries_at, Lists}
 pub use Rattle.provisional_cache.specs.declared.ProvisionalCacheEntry.{ProvisionalCacheEntry}
-pub use Rattle.global_cache.specs.Cache.{CacheNode}
-pub use Rattle.global_cache.specs.Definite.{HasGraph}
-pub use Rattle.global_cache.specs.Shapes.{shape_of, shapes_of}
+pub use Rattle.graph_nodes.specs.Nodes.{CacheNode}
+pub use Rattle.graph_nodes.specs.Definite.{HasGraph}
+pub use Rattle.graph_nodes.specs.Shapes.{shape_of, shapes_of}
 pub use Rattle.global_cache.specs.Store.{place_of}
 pub use Rattle.global_cache.specs.Stored.{IsPlainAt}
 pub use Rattle.global_cache.specs.declared.results.Place.{Place}

@@ -29,9 +29,10 @@ pub use Rattle.search_context.specs.declared.context.Verdict.TheVariants.{Neithe
 pub use Rattle.search_stack.specs.declared.depth.AvailableDepth.{AvailableDepth}
 pub use Rattle.search_stack.specs.declared.stack.EntryState.{EntryState}
 pub use Rattle.search_stack.specs.declared.stack.StackEntry.{StackEntry}
-pub use Rattle.global_cache.specs.Cache.{AreRuns, Cache, CacheNode, KeepsFinished, KeepsNodes}
-pub use Rattle.global_cache.specs.Definite.{HasGraph}
-pub use Rattle.global_cache.specs.HandedOut.{IsWhole, KeepsWhole}
+pub use Rattle.graph_nodes.specs.Nodes.{AreRuns, CacheNode, KeepsFinished, KeepsNodes}
+pub use Rattle.global_cache.specs.Cache.{Cache}
+pub use Rattle.graph_nodes.specs.Definite.{HasGraph}
+pub use Rattle.graph_nodes.specs.HandedOut.{IsWhole, KeepsWhole}
 pub use Rattle.global_cache.specs.Hits.{first_accepted, usable}
 pub use Rattle.search_stack.specs.Hit.{Hit, hit_of}
 pub use Rattle.global_cache.specs.declared.results.Place.{Place}

@@ -1,6 +1,6 @@
 -- What a turn of the loop comes to, which is a move after which nodes may be let go.
 use Rattle.std.specs.Prelude.{◌≡◌, ◌≤◌, ℕ, Bool, length, List, []}
-use Rattle.global_cache.specs.Collected.{StayBefore}
+use Rattle.graph_nodes.specs.Collected.{StayBefore}
 use Rattle.search_graph.specs.Below.{AreFrom, Cache, ChangesNewest, CxOf, DelegateOf, fates_of, Finished, HasReply, HaveExpected, IsJustifiedNext, IsNew, IsRightFor, KeepsFirst, KeepsResults, Next, Received, Step, OpenGoal, verdicts}
 use Rattle.search_moves.specs.Drafts.{AreNotedNodes, HasNoDrafts, LeavesReached}
 use Rattle.search_moves.specs.declared.evaluation.Evaluation.{Evaluation}

@@ -28,8 +28,9 @@ pub use Rattle.provisional_cache.specs.Reuse.{depends_on}
 pub use Rattle.provisional_cache.specs.declared.ProvisionalCacheEntry.{ProvisionalCacheEntry}
 pub use Rattle.provisional_cache.specs.declared.RebaseReason.{RebaseReason}
 pub use Rattle.provisional_cache.specs.declared.RebaseReason.TheVariants.{Overflow}
-pub use Rattle.global_cache.specs.Cache.{Cache, CacheNode, finished_node, graph_nodes_of, KeepsFinished, KeepsNodes, open_node}
-pub use Rattle.global_cache.specs.Definite.{HasGraph}
+pub use Rattle.graph_nodes.specs.Nodes.{CacheNode, finished_node, graph_nodes_of, KeepsFinished, KeepsNodes, open_node}
+pub use Rattle.global_cache.specs.Cache.{Cache}
+pub use Rattle.graph_nodes.specs.Definite.{HasGraph}
 pub use Rattle.global_cache.specs.Hits.{first_accepted, usable}
 pub use Rattle.search_stack.specs.Hit.{Hit, hit_of}
 pub use Rattle.global_cache.specs.Store.{KeepsResults, place_of, Store, stored_at, stored_from}

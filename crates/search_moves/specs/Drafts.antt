@@ -2,9 +2,10 @@
 use Rattle.std.specs.Prelude.{◌≡◌, ◌<◌, ◌≤◌, ◌⊎◌, [], ℕ, All, Bool, Contains, IsSome, IsTrue, length, List, Option, slice_get, Some}
 use Rattle.std.specs.Option.{IfSome}
 use Rattle.open_goals.specs.Nodes.{HasNodes}
-use Rattle.global_cache.specs.Collected.{AreRooted, Collected}
-use Rattle.global_cache.specs.Held.{IsGone}
-pub use Rattle.global_cache.specs.Collected.{with_root as noted}
+use Rattle.graph_nodes.specs.Collected.{Collected}
+use Rattle.global_cache.specs.Rooted.{AreRooted}
+use Rattle.graph_nodes.specs.Held.{IsGone}
+pub use Rattle.graph_nodes.specs.Collected.{with_root as noted}
 use Rattle.search_moves.specs.Below.{Cache, CacheNode, entries_at, finished_node, graph_nodes_of, IsReached, NodeId, Place, runs_of, stored_at}
 use Rattle.search_moves.specs.declared.drafts.Drafts.{Drafts}
 use Rattle.search_moves.specs.declared.evaluation.Evaluation.{Evaluation}

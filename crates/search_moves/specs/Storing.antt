@@ -1,6 +1,6 @@
 -- What is stored of a goal that is done, and what is known where that fails.
 use Rattle.std.specs.Prelude.{◌≡◌, ◌&&◌, ◌++◌, if◌then◌else◌, ℕ, Bool, [], ◌∷◌, Contains, IfErr, IsTrue, List, map, Result, reverse}
-use Rattle.global_cache.specs.Collected.{Collected}
+use Rattle.graph_nodes.specs.Collected.{Collected}
 use Rattle.search_moves.specs.Below.{DelegateOf, CxOf, Cache, CacheNode, EvaluationResult, Fault, HasGraph, IfCompared, IsExpected, IsPlainAt, KeepsResults, NodeId, PathKind, entries_at, place_of, verdicts}
 use Rattle.search_moves.specs.Drafts.{KeepsNoted}
 use Rattle.search_moves.specs.declared.drafts.Drafts.{Drafts}

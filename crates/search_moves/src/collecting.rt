@@ -1,6 +1,6 @@
 //! Nodes that a call wrote are let go once nothing leads to them any more.
 ghost use Rattle.std.specs.Prelude.{◌≡◌, [], IfOk, None, OnErr, OnOk};
-ghost use Rattle.global_cache.specs.Collected.{StayBefore};
+ghost use Rattle.graph_nodes.specs.Collected.{StayBefore};
 ghost use Rattle.search_moves.specs.Drafts.{AreNotedNodes, HasRoots, LetsGo, LetsGoAtEnd};
 
 use crate::evaluation::Evaluation;

@@ -65,12 +65,13 @@ pub use Rattle.provisional_cache.specs.declared.ProvisionalCacheEntry.{Provision
 pub use Rattle.provisional_cache.specs.declared.RebaseReason.{RebaseReason}
 pub use Rattle.provisional_cache.specs.declared.RebaseReason.TheVariants.{Ambiguity, NoCycleUsages}
 pub use Rattle.provisional_cache.specs.declared.RebaseReason.TheVariants.{Overflow, ReachedFixpoint}
-pub use Rattle.global_cache.specs.Cache.{AreRuns, Cache, CacheNode, EndedRun, graph_nodes_of, IsNodeOf, IsRun}
-pub use Rattle.global_cache.specs.Cache.{KeepsFinished, KeepsGoals, KeepsNodes, goal_if_open, open_goal, open_node, with_run}
-pub use Rattle.global_cache.specs.Definite.{HasGraph, HasNode}
+pub use Rattle.graph_nodes.specs.Nodes.{AreRuns, CacheNode, EndedRun, graph_nodes_of, IsNodeOf, IsRun}
+pub use Rattle.global_cache.specs.Cache.{Cache}
+pub use Rattle.graph_nodes.specs.Nodes.{KeepsFinished, KeepsGoals, KeepsNodes, goal_if_open, open_goal, open_node, with_run}
+pub use Rattle.graph_nodes.specs.Definite.{HasGraph, HasNode}
 pub use Rattle.global_cache.specs.Hits.{first_accepted, usable}
 pub use Rattle.search_stack.specs.Hit.{Hit, hit_of}
-pub use Rattle.global_cache.specs.Shapes.{edge_shape, shape_of, shapes_of}
+pub use Rattle.graph_nodes.specs.Shapes.{edge_shape, shape_of, shapes_of}
 pub use Rattle.global_cache.specs.Store.{AnswersStoring, place_of, Puts, same_key, Store, stored_at, stored_from}
 pub use Rattle.global_cache.specs.Stored.{AreSoundResults, IsPlainAt}
 pub use Rattle.search_stack.specs.declared.result.CacheData.{CacheData}

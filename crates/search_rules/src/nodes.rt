@@ -1,7 +1,7 @@
 //! The node of a run that has ended.
 ghost use Rattle.std.specs.Prelude.{◌≡◌, ◌↔◌, IsTrue, IfOk, OnOk, Some};
 ghost use Rattle.std.specs.Option.{option_map};
-ghost use Rattle.global_cache.specs.Cache.{ended_run};
+ghost use Rattle.graph_nodes.specs.Nodes.{ended_run};
 ghost use Rattle.search_rules.specs.Below.{KeepsFinished, IsDefinite, edges_of, open_goal, verdict_of, verdicts, with_run, verdict_shape};
 ghost use Rattle.search_rules.specs.Words.{EndsRun, HasResultNode, KeepsBut, LeadToGoals};
 

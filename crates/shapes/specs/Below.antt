@@ -11,4 +11,4 @@ pub use Rattle.search_context.specs.declared.context.Verdict.TheVariants.{Neithe
 pub use Rattle.search_rules.specs.Results.{AreDefinite}
 pub use Rattle.search_context.specs.Decisive.{IsDecidedKind, IsDecisive}
 pub use Rattle.search_context.specs.declared.context.NodeId.{NodeId}
-pub use Rattle.global_cache.specs.Cache.{graph_nodes_of}
+pub use Rattle.graph_nodes.specs.Nodes.{graph_nodes_of}

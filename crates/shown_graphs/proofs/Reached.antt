@@ -3,9 +3,9 @@ use Rattle.std.proofs.Common.{◌≡◌, ◌∙◌, ◌<◌, ℕ, ap, arith, len
 use Rattle.std.specs.Prelude.{Contains, IsSomeAnd, slice_get, slice_index}
 use Rattle.std.specs.Option.{option_map}
 use Rattle.std.proofs.lemmas.Option.{get_or_from_slice_get, slice_get-map}
-use Rattle.global_cache.specs.Cache.{CacheNode, graph_node_of, graph_nodes_of}
-use Rattle.global_cache.specs.HandedOut.{Copies, IsCopyFrom, original_node}
-use Rattle.global_cache.proofs.HandedOut.{original_there}
+use Rattle.graph_nodes.specs.Nodes.{CacheNode, graph_node_of, graph_nodes_of}
+use Rattle.graph_nodes.specs.HandedOut.{Copies, IsCopyFrom, original_node}
+use Rattle.graph_nodes.proofs.HandedOut.{original_there}
 use Rattle.search_context.proofs.Graphs.{Contains-map, HasEdge-from, IsReached-step}
 use Rattle.search_context.specs.Graph.{HasEdge, IsReached, IsWalk, original_edge}
 use Rattle.search_context.specs.Valid.{goal_node_of, goal_nodes_of}

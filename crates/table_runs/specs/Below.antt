@@ -7,7 +7,7 @@ pub use Rattle.delegate_parts.specs.declared.builder.Builder.{Builder}
 pub use Rattle.delegate_parts.specs.declared.outcome.Outcome.{Outcome}
 pub use Rattle.search_context.specs.Verdicts.{IsDefinite, verdicts, Verdicts}
 pub use Rattle.search_context.specs.Valid.{IsValid, IsValidFor}
-pub use Rattle.global_cache.specs.Definite.{HasGraph}
+pub use Rattle.graph_nodes.specs.Definite.{HasGraph}
 pub use Rattle.search_graph.specs.Below.{IsPaid}
 pub use Rattle.search_rules.specs.Claims.{IsCaused}
 pub use Rattle.search_rules.specs.Results.{AreDefinite, HaveNoOverflow}
@@ -23,7 +23,8 @@ pub use Rattle.search_context.specs.declared.context.NodeId.{NodeId}
 pub use Rattle.search_context.specs.declared.context.Reply.{Reply}
 pub use Rattle.search_context.specs.declared.context.Request.{Request}
 pub use Rattle.search_context.specs.declared.context.Verdict.{Verdict}
-pub use Rattle.global_cache.specs.Cache.{Cache, KeepsFinished}
+pub use Rattle.graph_nodes.specs.Nodes.{KeepsFinished}
+pub use Rattle.global_cache.specs.Cache.{Cache}
 pub use Rattle.global_cache.specs.Hits.{first_accepted, usable}
 pub use Rattle.search_stack.specs.Hit.{Hit}
 pub use Rattle.global_cache.specs.Store.{KeepsResults}

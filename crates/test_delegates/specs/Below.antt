@@ -11,4 +11,4 @@ pub use Rattle.search_context.specs.declared.context.Reply.TheVariants.{Answer, 
 pub use Rattle.search_context.specs.declared.context.Request.{Request}
 pub use Rattle.search_context.specs.declared.context.Request.TheVariants.{Done, EnterCandidate, Evaluate, FinishCandidate}
 pub use Rattle.search_context.specs.declared.context.Request.TheVariants.{Ignore}
-pub use Rattle.global_cache.specs.Cache.{EndedRun, IsNodeOf, open_goal, with_run}
+pub use Rattle.graph_nodes.specs.Nodes.{EndedRun, IsNodeOf, open_goal, with_run}

@@ -7,8 +7,8 @@ use Rattle.std.proofs.lemmas.Result.{IfOk-weaker}
 use Rattle.search_graph.specs.Below.{CxOf, DelegateOf, Fault, Memory, PathKind, Cache, AreRuns, KeepsFinished, HasGraph, Question, Overlap, IsPlainTo, IsPlainValue, KeepsResults, IsWhole, verdicts, IsProved, IsRefuted}
 use Rattle.search_context.specs.declared.context.Answer.{Answer}
 use Rattle.search_context.proofs.Rules.{KeepsRule}
-use Rattle.global_cache.proofs.Definites.{HasGraph-finished, definite_is_whole}
-use Rattle.global_cache.proofs.Finished.{KeepsFinished-then}
+use Rattle.graph_nodes.proofs.Definites.{HasGraph-finished, definite_is_whole}
+use Rattle.graph_nodes.proofs.Finished.{KeepsFinished-then}
 use Rattle.global_cache.proofs.Stores.{KeepsResults-then}
 use Rattle.search_graph.specs.Words.{HadCause, HasAnswer}
 use Rattle.search_graph.specs.Lists.{AppendsEach, IsAnsweredQuery}

@@ -4,10 +4,11 @@ use Rattle.std.specs.Global.{Global}
 use Rattle.std.proofs.Common.{◌≡◌, ℕ, ◌<◌, ◌≤◌, arith, Bool, Contains, inl, inr, length, List, [], ◌∷◌, None, Option, option_map, refl, slice_get, Some, subst, sym, ap, ◌∙◌, ◌⊎◌}
 use Rattle.std.specs.Option.{IfSome, IsSomeAnd}
 use Rattle.std.proofs.lemmas.Option.{slice_get-get_or, slice_get-map, slice_get_cases, slice_get_past, slice_get_within}
-use Rattle.global_cache.specs.Cache.{EndedRun, graph_node_of, graph_nodes_of, IsNodeOf}
-use Rattle.global_cache.specs.Collected.{AreRooted, StayBefore}
-use Rattle.global_cache.specs.Held.{IsGone}
-use Rattle.global_cache.proofs.Finished.{found_finished}
+use Rattle.graph_nodes.specs.Nodes.{EndedRun, graph_node_of, graph_nodes_of, IsNodeOf}
+use Rattle.graph_nodes.specs.Collected.{StayBefore}
+use Rattle.global_cache.specs.Rooted.{AreRooted}
+use Rattle.graph_nodes.specs.Held.{IsGone}
+use Rattle.graph_nodes.proofs.Finished.{found_finished}
 use Rattle.global_cache.proofs.Stores.{KeepsResults-then}
 use Rattle.open_graphs.proofs.Lists.{mapped_some}
 use Rattle.search_context.specs.declared.context.Answer.{Answer}

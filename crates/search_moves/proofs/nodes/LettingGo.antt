@@ -6,8 +6,9 @@ use Rattle.std.specs.Prelude.{Err, Ok, OnErr, OnOk, Result}
 use Rattle.std.proofs.lemmas.List.Elements.{All-contains, All-contains_itself, All-head, All-tail, All-weaker}
 use Rattle.std.proofs.lemmas.Option.{get_or_from_slice_get, slice_get-map, slice_get_within}
 use Rattle.open_goals.specs.Nodes.{HasNodes}
-use Rattle.global_cache.specs.Cache.{graph_node_of}
-use Rattle.global_cache.specs.Collected.{AreLive, AreRooted, Collected}
+use Rattle.graph_nodes.specs.Nodes.{graph_node_of}
+use Rattle.graph_nodes.specs.Collected.{AreLive, Collected}
+use Rattle.global_cache.specs.Rooted.{AreRooted}
 use Rattle.search_context.specs.Graph.{IsWalk}
 use Rattle.search_context.specs.declared.context.Edge.{Edge}
 use Rattle.search_moves.proofs.nodes.Noting.{noted_cases, of_stored_stays, still_noted, target_is_noted}

@@ -4,7 +4,7 @@ use Rattle.std.specs.Prelude.{◌≢◌, Err, IfErr, length, Ok, OnErr, OnOk, Re
 use Rattle.std.specs.Option.{IfSome, IsSome, IsSomeAnd, is_some}
 use Rattle.std.proofs.Math.Seq.{take-append_seam, take-length}
 use Rattle.std.proofs.lemmas.List.Elements.{Contains-append_cases, Contains-append_left, Contains-append_right}
-use Rattle.global_cache.proofs.Bridge.{ended_at}
+use Rattle.graph_nodes.proofs.Bridge.{ended_at}
 use Rattle.global_cache.proofs.Stores.{put_cases}
 use Rattle.global_cache.specs.Store.{AnswersStoring, Puts}
 use Rattle.search_moves.specs.Below.{Cache, CxOf, Fault, Memory, finished_node, HasGraph, IsDefinite, KeepsFinished, KeepsResults, NodeId, Place, stored_at, StoredResult, verdict_of, verdicts}

@@ -3,11 +3,11 @@ use Rattle.std.proofs.Common.{◌≡◌, ℕ, Bool, true, false, Contains, List,
 use Rattle.std.specs.Prelude.{IfErr, OnErr}
 use Rattle.std.specs.Cmp.{IsEquivalence}
 use Rattle.std.specs.Option.{IfSome}
-use Rattle.global_cache.proofs.Collecting.{AreRuns-collected}
-use Rattle.global_cache.specs.Collected.{Collected}
+use Rattle.graph_nodes.proofs.Collecting.{AreRuns-collected}
+use Rattle.graph_nodes.specs.Collected.{Collected}
 use Rattle.search_context.proofs.Rules.{KeepsRule}
 use Rattle.search_moves.proofs.nodes.LettingGo.{live_root}
-use Rattle.global_cache.specs.Cache.{AreRuns}
+use Rattle.graph_nodes.specs.Nodes.{AreRuns}
 use Rattle.global_cache.specs.Store.{AnswersStoring}
 use Rattle.global_cache.specs.Stored.{AreSoundResults}
 use Rattle.search_context.specs.Question.{Overlap, Question}

@@ -1,6 +1,6 @@
 -- What moves keep of the cache.
 use Rattle.std.proofs.Common.{◌≡◌, Bool, List, ◌∷◌, refl, sym, ap, subst}
-use Rattle.global_cache.proofs.Finished.{KeepsFinished-nodes, KeepsFinished-same}
+use Rattle.graph_nodes.proofs.Finished.{KeepsFinished-nodes, KeepsFinished-same}
 use Rattle.global_cache.proofs.Stores.{KeepsResults-same}
 use Rattle.search_rules.proofs.records.EarlierNodes.{earlier_but, earlier_of_nodes, earlier_over, earlier_same, stay_left, stay_noted, stay_pushed, stay_stored, stay_taken}
 use Rattle.search_moves.specs.Below.{Cache, CacheNode, CxOf, DelegateOf, KeepsBut, KeepsEarlier, KeepsFinished, KeepsNodes, KeepsResults, Next, PathKind, Received, StayFrom, OpenGoal}

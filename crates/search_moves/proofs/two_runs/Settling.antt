@@ -6,7 +6,7 @@ use Rattle.std.proofs.lemmas.List.Elements.{All-contains_itself}
 use Rattle.std.proofs.lemmas.Option.{get_or_from_slice_get, slice_get_within}
 use Rattle.run_records.specs.declared.runs.Fate.{Fate}
 use Rattle.run_records.specs.declared.runs.Fate.TheVariants as becomes
-use Rattle.global_cache.proofs.NodeLists.{Grown-appended, KeepsGoals-appended}
+use Rattle.graph_nodes.proofs.NodeLists.{Grown-appended, KeepsGoals-appended}
 use Rattle.search_moves.specs.Below.{Answer, AvailableDepth, Begin, Cache, CacheNode, Call, CxOf, DelegateOf, entries_at, Evaluate, fate_for, Fated, fates_of, first_accepted, Hit, is_applicable, open_node, PathKind, path_kind_from, ProvisionalCacheEntry, Pushes, Received, runs_of, StackEntry, OpenGoal, StackDepth, stored_at, StoredResult, Success, usable, verdicts}
 use Rattle.search_moves.specs.declared.evaluation.Evaluation.{Evaluation}
 use Rattle.search_moves.specs.Settled.{EntriesSuitCall, Settles}

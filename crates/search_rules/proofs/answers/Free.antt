@@ -7,8 +7,8 @@ use Rattle.search_rules.specs.Below.{IsClosedGraph, Entry, path_kind, Use, UsesN
 use Rattle.open_graphs.proofs.Runs.{closed_gives_use}
 use Rattle.open_graphs.proofs.Closed.{graph_is_use}
 use Rattle.open_graphs.proofs.Asked.{final_is_answered}
-use Rattle.global_cache.proofs.Definites.{HasNode-kept, IsSomeAnd-weaker}
-use Rattle.global_cache.proofs.NodeLists.{KeepsGoals-appended}
+use Rattle.graph_nodes.proofs.Definites.{HasNode-kept, IsSomeAnd-weaker}
+use Rattle.graph_nodes.proofs.NodeLists.{KeepsGoals-appended}
 use Rattle.global_cache.proofs.Stores.{put_cases}
 use Rattle.search_rules.specs.Words.{OpenRun, frame_of, frames_of, NewestAsks, AreJustified, MayAnswer, asked_now, heads_of, IsFree, AreFree, StoresAnswer, Put, runs_of}
 use Rattle.search_rules.specs.Results.{NotStored}

@@ -3,7 +3,7 @@ use Rattle.std.proofs.Common.{◌≡◌, ◌≢◌, ℕ, ◌==◌, Bool, true, f
 use Rattle.std.specs.Option.{option_map}
 use Rattle.std.proofs.lemmas.Bool.{false≢true}
 use Rattle.search_rules.specs.Below.{StackDepth, CycleHead, PathKind, HeadUsages, UsagesByHead, Heads, at_depth, DelegateOf, CxOf, Final, ProvisionalEntry, KeepsGoals, NodeId, Request, Evaluate, EnterCandidate, FinishCandidate, Ignore, Done, EntryState, OpenGoal, CacheNode, open_node, Received, enters, finishes, less_head, less_usages, Ignores, NotesCandidate, joined_over, usages_over, AnswersNewest, requested, HasStepped, received_by, Verdicts, verdicts}
-use Rattle.global_cache.proofs.NodeLists.{KeepsGoals-appended}
+use Rattle.graph_nodes.proofs.NodeLists.{KeepsGoals-appended}
 use Rattle.search_rules.specs.Words.{OpenRun, AreJustified, IsHead, run_of, runs_of, Tally, tally_of, counted}
 use Rattle.search_rules.proofs.answers.Moves.{HoldOver, above_hold, pushed_hold}
 use Rattle.search_rules.proofs.justified.Finishing.{same_run}

@@ -4,7 +4,7 @@ use Rattle.std.specs.Option.{IsSomeAnd}
 use Rattle.open_graphs.specs.Graph as theory
 use Rattle.search_rules.specs.Below.{NodeId, Question, Overlap, GraphNode, IsProofGraph, IsRefutationGraph, Cache, AreRuns, graph_nodes_of, HasGraph, DelegateOf, CxOf, verdicts}
 use Rattle.search_context.proofs.Rules.{KeepsRule}
-use Rattle.global_cache.proofs.Definites.{yes_is_shown, no_is_shown}
+use Rattle.graph_nodes.proofs.Definites.{yes_is_shown, no_is_shown}
 use Rattle.search_context.proofs.Graphs.{never_both}
 use Rattle.search_rules.specs.Words.{IsProved, IsRefuted}
 

@@ -7,13 +7,13 @@ use Rattle.open_graphs.specs.Collected as theory
 use Rattle.open_graphs.specs.Graph as graphs
 use Rattle.open_graphs.specs.Use as theory_use
 use Rattle.open_graphs.proofs.Collecting.{collecting_keeps_graph, collecting_keeps_sound, collecting_keeps_stored, collecting_keeps_use}
-use Rattle.global_cache.specs.Collected.{Collected}
+use Rattle.graph_nodes.specs.Collected.{Collected}
 use Rattle.search_rules.specs.Below.{CacheNode, Entry, goal_if_open, HasGraph, HasNode, IsAnsweredEdge, IsNodeOf, NodeId, open_goal, ProvisionalCacheEntry, Lists, entries_at, Reply, Request, shapes_of, stack_of, Store, StoredResult, Verdicts, verdict_of}
 use Rattle.search_rules.specs.Free.{AreFree}
 use Rattle.search_rules.specs.Justified.{AreJustified, AreOpen, AreSupported, frames_of, IsFit, IsSupported, MayAnswer, OpenRun}
 use Rattle.search_rules.specs.Live.{AreLiveEntries, AreLiveResults, AreLiveRuns, IsLiveNode, IsLiveRun}
 use Rattle.search_rules.specs.Provisional.{AreReady, IsReady}
-use Rattle.global_cache.proofs.Collecting.{shapes_collected}
+use Rattle.graph_nodes.proofs.Collecting.{shapes_collected}
 
 module _ {I R : Type 0} (says : Verdicts R) (live : ℕ → Bool) (old new : List (CacheNode I R)) (collected : Collected live old new) where
   -- the nodes as the theory sees them

@@ -7,7 +7,7 @@ use Rattle.open_graphs.specs.Graph as graphs
 use Rattle.open_graphs.specs.Use as theory_use
 use Rattle.open_graphs.proofs.Collecting.{edge_back, finished_still, walk_is_live}
 use Rattle.open_graphs.proofs.Walks.{carried}
-use Rattle.global_cache.specs.Collected.{Collected}
+use Rattle.graph_nodes.specs.Collected.{Collected}
 use Rattle.search_rules.specs.Below.{CacheNode, Entry, entries_at, Lists, NodeId, ProvisionalCacheEntry, Reply, shapes_of, Store, OpenGoal, StoredResult, Success, Verdicts}
 use Rattle.search_rules.specs.Calls.{Call}
 use Rattle.search_rules.specs.Justified.{cycles_node, OpenRun}

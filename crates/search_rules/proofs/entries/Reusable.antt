@@ -3,8 +3,8 @@ use Rattle.std.proofs.Common.{◌≡◌, ℕ, ◌<◌, true, List, [], ◌∷◌
 use Rattle.std.specs.Option.{IsSomeAnd, option_or}
 use Rattle.search_rules.specs.Below.{path_kind, HeadsWithin, UsesNo, ProvisionalEntry, stack_of, AfterPop, IsLeft, Survives, Added, TakesIn, PathKind, heads_shape, rank_of, NodeId, CacheNode, HasNode, ProvisionalCacheEntry, open_node, IsNodeOf, IsDefinite, verdict_of, shapes_of, Verdicts}
 use Rattle.open_graphs.proofs.Asked.{stored_is_answered}
-use Rattle.global_cache.proofs.Definites.{HasNode-kept, IsSomeAnd-weaker}
-use Rattle.global_cache.proofs.NodeLists.{KeepsGoals-appended}
+use Rattle.graph_nodes.proofs.Definites.{HasNode-kept, IsSomeAnd-weaker}
+use Rattle.graph_nodes.proofs.NodeLists.{KeepsGoals-appended}
 use Rattle.search_rules.specs.Words.{OpenRun, frame_of, frames_of, AreJustified, MayAnswer, asked_now, entry_shape, highest_depth, HoldsOver, IsReusable, heads_of}
 use Rattle.search_rules.proofs.answers.Moves.{alone, nothing, popped_hold, rerun_hold}
 use Rattle.search_rules.proofs.justified.Justified.{new_run, tally_again, EndsWithNode, used_at}

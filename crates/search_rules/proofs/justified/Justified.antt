@@ -16,8 +16,8 @@ use Rattle.open_graphs.specs.Stack.{IsLeaf}
 use Rattle.std.proofs.lemmas.Option.{slice_get_within}
 use Rattle.search_rules.specs.Justified.{LeadUpTo}
 use Rattle.search_rules.proofs.justified.Beyond.{answered_beyond}
-use Rattle.global_cache.proofs.Definites.{IsSomeAnd-weaker}
-use Rattle.global_cache.proofs.NodeLists.{KeepsNodes-appended, KeepsGoals-appended, before, with_run-is, KeepsGoals-ended}
+use Rattle.graph_nodes.proofs.Definites.{IsSomeAnd-weaker}
+use Rattle.graph_nodes.proofs.NodeLists.{KeepsNodes-appended, KeepsGoals-appended, before, with_run-is, KeepsGoals-ended}
 use Rattle.search_rules.specs.Words.{OpenRun, cycles_node, frame_of, frames_of, AreOpen, AreEdges, NewestAsks, HasTally, AreCharged, AreSupported, AreJustified, asked_now, MayAnswer, Tally, IsTallied, heads_of, spare_heads, SaysAgain}
 use Rattle.search_rules.proofs.counts.Tallies.{charge_within, fresh_tallied, rerun_keeps, rerun_tallied, spare_within}
 

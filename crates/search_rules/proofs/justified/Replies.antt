@@ -2,7 +2,7 @@
 use Rattle.std.proofs.Common.{◌≡◌, ◌≢◌, ℕ, Bool, true, false, IsTrue, List, [], ◌∷◌, length, Option, None, Some, IsSome, refl, sym, ap, ◌∙◌, subst, inl, inr, if◌then◌else◌}
 use Rattle.std.specs.Option.{IsSomeAnd}
 use Rattle.open_graphs.specs.Graph as theory
-use Rattle.global_cache.proofs.Definites.{yes_verdict}
+use Rattle.graph_nodes.proofs.Definites.{yes_verdict}
 use Rattle.search_rules.specs.Below.{DelegateOf, CxOf, PathKind, Verdict, Yes, No, Neither, NodeId, Request, Evaluate, Reply, Answer, OpenGoal, StackEntry, CacheNode, verdict_of, Fits, IsFitting, request_after, Run, Received, DefiniteAnswer, RunRecord, received, answered, IsReplySorted, KeepsAnswer, open_number, edge_to, IsVerdict, verdicts, verdict_shape}
 use Rattle.search_rules.specs.Words.{AreJustified, MayAnswer, IsFit, run_of, runs_of, Call, IsWaiting}
 use Rattle.lean_runs.proofs.Verdicts.{in_theory_definite, verdict_is}

@@ -5,7 +5,7 @@ use Rattle.open_graphs.specs.Graph as theory
 use Rattle.open_graphs.proofs.Keep.{growth_keeps_use}
 use Rattle.open_graphs.proofs.Runs.{answered_grows}
 use Rattle.open_graphs.proofs.States.{verdict_cases}
-use Rattle.global_cache.proofs.NodeLists.{AreRuns-ended}
+use Rattle.graph_nodes.proofs.NodeLists.{AreRuns-ended}
 use Rattle.search_context.proofs.Rules.{KeepsRule}
 use Rattle.search_rules.specs.Below.{AreRuns, CacheNode, edges_of, EndedRun, entries_at, HeadUsages, heads_shape, IsDefinite, IsNodeOf, Lists, Neither, No, NodeId, Overlap, path_kind, PathKind, ProvisionalCacheEntry, Question, rank_of, RebaseReason, Reply, Request, shapes_of, stack_of, Store, OpenGoal, StoredResult, Use, Verdict, verdict_of, Verdicts, with_run, Yes, verdict_shape}
 use Rattle.search_rules.specs.EndOfRun.{IsEndOfRun, Limited, Repeats, Stable, Unused}

@@ -9,7 +9,7 @@ use Rattle.open_graphs.proofs.Keep.{growth_back, growth_place}
 use Rattle.open_graphs.proofs.Lists.{mapped_some}
 use Rattle.open_graphs.proofs.Transfer.{same_walk}
 use Rattle.open_graphs.proofs.Walks.{carried}
-use Rattle.global_cache.proofs.Finished.{finished_stays, Grown-finished}
+use Rattle.graph_nodes.proofs.Finished.{finished_stays, Grown-finished}
 use Rattle.search_rules.specs.Below.{CacheNode, Entry, IsNodeOf, KeepsFinished, KeepsGoals, no_heads, shape_of, shapes_of, stack_of, Use, UsesNo, Verdicts}
 use Rattle.search_rules.specs.Justified.{frames_of, OpenRun}
 use Rattle.search_rules.specs.Words.{HasSuchGoal, LeadsOnly, StepOn, WalksToGoals}

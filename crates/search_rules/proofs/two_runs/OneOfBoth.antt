@@ -15,7 +15,7 @@ use Rattle.search_rules.specs.Below.{stack_of, NodeId, PathKind, Coinductive, In
 use Rattle.search_context.proofs.Rules.{KeepsRule}
 use Rattle.search_context.proofs.Pigeonhole.{pair_twice}
 use Rattle.search_context.proofs.Graphs.{Contains-map}
-use Rattle.global_cache.proofs.Bridge.{Ended, IsSort, ended_finished, edge_step, shown_by_run, yes_sort, no_sort}
+use Rattle.graph_nodes.proofs.Bridge.{Ended, IsSort, ended_finished, edge_step, shown_by_run, yes_sort, no_sort}
 use Rattle.search_rules.specs.Words.{AreSupported, cycles_node, frame_of, frames_of, IsOff, OpenRun, StepOn, WalksToGoals}
 use Rattle.search_rules.proofs.two_runs.StoppedWalks.{unstopped}
 use Rattle.lean_runs.proofs.Places.{place_among}

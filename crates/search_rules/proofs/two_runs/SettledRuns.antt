@@ -5,7 +5,7 @@ use Rattle.std.specs.Option.{IsSomeAnd, option_or}
 use Rattle.std.proofs.lemmas.Bool.{false≢true, or_parts}
 use Rattle.open_graphs.specs.Graph as theory
 use Rattle.open_graphs.proofs.Runs.{answered_grows}
-use Rattle.global_cache.proofs.NodeLists.{Grown-appended, KeepsGoals-appended}
+use Rattle.graph_nodes.proofs.NodeLists.{Grown-appended, KeepsGoals-appended}
 use Rattle.search_rules.specs.Words.{AreSettledGoals, HasEntry, IsBehind, IsStop, RestOnOlder, StandApart, WalksToGoals}
 use Rattle.search_rules.specs.Below.{CacheNode, Heads, IsDefinite, IsNodeOf, is_in_cycle, KeepsGoals, Lists, NodeId, open_node, ProvisionalCacheEntry, rerun_with, RunRecord, shapes_of, some_heads, stack_of, StackEntry, OpenGoal, Store, StoredResult, verdict_of, Verdicts, with_no_record}
 use Rattle.search_rules.specs.Justified.{AreJustified, cycles_node, frame_of, frames_of}

@@ -1,5 +1,4 @@
-use Rattle.global_cache.specs.Below.{verdicts}
-use Rattle.global_cache.specs.Words.{with_root}
+use Rattle.global_cache.specs.Below.{verdicts, with_root}
 use Rattle.global_cache.proofs.Sound.{IsSoundCache-collected}
 use Rattle.global_cache.proofs.GlobalCache.collect.Goals as goal
 

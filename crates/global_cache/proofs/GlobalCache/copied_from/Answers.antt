@@ -1,6 +1,6 @@
 use Rattle.std.proofs.Common.{ap, subst, sym}
 use Rattle.std.proofs.lemmas.Option.{MatchOption-at_none}
-use Rattle.global_cache.specs.Words.{IsWhole}
+use Rattle.global_cache.specs.Below.{IsWhole}
 use Rattle.global_cache.proofs.GlobalCache.copied_from.Goals as goal
 
 pub returns-in-Ok-None : goal.returns-in-Ok-None

@@ -1,9 +1,10 @@
 use Rattle.std.proofs.Common.{sym, subst}
-use Rattle.global_cache.specs.Below.{Grown, verdicts}
-use Rattle.global_cache.specs.Words.{KeepsFinished, KeepsGoals, IsSoundCache, open_goal, shapes_of}
-use Rattle.global_cache.proofs.Finished.{KeepsFinished-ended}
-use Rattle.global_cache.proofs.NodeLists.{KeepsGoals-ended, Grown-ended}
-use Rattle.global_cache.proofs.Slots.{nodes_ended, cache_ended, open_there, some_and}
+use Rattle.global_cache.specs.Below.{Grown, verdicts, KeepsFinished, KeepsGoals, open_goal, shapes_of}
+use Rattle.global_cache.specs.Words.{IsSoundCache}
+use Rattle.graph_nodes.proofs.Finished.{KeepsFinished-ended}
+use Rattle.graph_nodes.proofs.NodeLists.{KeepsGoals-ended, Grown-ended}
+use Rattle.graph_nodes.proofs.Slots.{some_and}
+use Rattle.global_cache.proofs.Slots.{nodes_ended, cache_ended, open_there}
 use Rattle.global_cache.proofs.Sound.{IsSoundCache-ended}
 use Rattle.global_cache.proofs.GlobalCache.finish_node.Goals as goal
 

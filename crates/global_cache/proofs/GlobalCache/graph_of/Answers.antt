@@ -1,12 +1,11 @@
 use Rattle.std.proofs.Common.{[], Some, refl, arith}
 use Rattle.std.specs.Option.{IsSome}
 use Rattle.std.proofs.lemmas.Grind.{common_steps}
-use Rattle.global_cache.specs.Below.{verdicts}
-use Rattle.global_cache.specs.Words.{finished_node, IsWhole, IsCopyFrom}
+use Rattle.global_cache.specs.Below.{verdicts, finished_node, IsWhole, IsCopyFrom}
 use Rattle.global_cache.proofs.Copied.{is_copy, whole_is_there, there_is_whole, whole_is_good}
-use Rattle.global_cache.proofs.Definites.{definite_is_whole}
-use Rattle.global_cache.proofs.HandedOut.{copy_is_whole}
-use Rattle.global_cache.proofs.ValidCopies.{yes_is_valid, no_is_valid}
+use Rattle.graph_nodes.proofs.Definites.{definite_is_whole}
+use Rattle.graph_nodes.proofs.HandedOut.{copy_is_whole}
+use Rattle.graph_nodes.proofs.ValidCopies.{yes_is_valid, no_is_valid}
 use Rattle.global_cache.proofs.GlobalCache.graph_of.Goals as goal
 
 -- the root isn't finished, so no definite result has this node

@@ -1,6 +1,5 @@
 use Rattle.std.proofs.Common.{subst}
-use Rattle.global_cache.specs.Below.{verdicts}
-use Rattle.global_cache.specs.Words.{AreRuns}
+use Rattle.global_cache.specs.Below.{verdicts, AreRuns}
 use Rattle.global_cache.proofs.GlobalCache.has_runs.Goals as goal
 
 pub returns : goal.returns

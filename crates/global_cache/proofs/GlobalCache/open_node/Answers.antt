@@ -1,8 +1,9 @@
 use Rattle.std.proofs.Common.{is_ok, sym, subst}
-use Rattle.global_cache.specs.Below.{Grown, verdicts}
-use Rattle.global_cache.specs.Words.{KeepsNodes, KeepsGoals, IsSoundCache, shapes_of}
-use Rattle.global_cache.proofs.NodeLists.{KeepsNodes-appended, KeepsGoals-appended, Grown-appended}
-use Rattle.global_cache.proofs.Slots.{is_appended, nodes_pushed, cache_pushed}
+use Rattle.global_cache.specs.Below.{Grown, verdicts, KeepsNodes, KeepsGoals, shapes_of}
+use Rattle.global_cache.specs.Words.{IsSoundCache}
+use Rattle.graph_nodes.proofs.NodeLists.{KeepsNodes-appended, KeepsGoals-appended, Grown-appended}
+use Rattle.graph_nodes.proofs.Slots.{is_appended}
+use Rattle.global_cache.proofs.Slots.{nodes_pushed, cache_pushed}
 use Rattle.global_cache.proofs.Sound.{IsSoundCache-appended}
 use Rattle.global_cache.proofs.GlobalCache.open_node.Goals as goal
 

@@ -1,7 +1,7 @@
 use Rattle.path_kinds.specs.declared.path.PathKind.TheVariants.{Inductive}
 use Rattle.open_graphs.specs.Graph.{No}
 use Rattle.search_parts.specs.Below.{verdicts}
-use Rattle.global_cache.proofs.Bridge.{graph_by_rule, no_sort}
+use Rattle.graph_nodes.proofs.Bridge.{graph_by_rule, no_sort}
 use Rattle.search_parts.proofs.law.no_is_refutation.Goals as goal
 
 pub returns : goal.returns

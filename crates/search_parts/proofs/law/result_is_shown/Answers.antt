@@ -1,4 +1,4 @@
-use Rattle.global_cache.proofs.Definites.{yes_is_shown, no_is_shown}
+use Rattle.graph_nodes.proofs.Definites.{yes_is_shown, no_is_shown}
 use Rattle.search_parts.proofs.law.result_is_shown.Goals as goal
 use Rattle.search_parts.specs.Below.{verdicts}
 

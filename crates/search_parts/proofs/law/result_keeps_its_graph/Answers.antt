@@ -1,4 +1,4 @@
-use Rattle.global_cache.proofs.Definites.{HasGraph-finished, HasGraph-kept}
+use Rattle.graph_nodes.proofs.Definites.{HasGraph-finished, HasGraph-kept}
 use Rattle.search_parts.proofs.law.result_keeps_its_graph.Goals as goal
 use Rattle.search_parts.specs.Below.{verdicts}
 

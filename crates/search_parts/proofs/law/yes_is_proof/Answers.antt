@@ -1,7 +1,7 @@
 use Rattle.path_kinds.specs.declared.path.PathKind.TheVariants.{Coinductive}
 use Rattle.open_graphs.specs.Graph.{Yes}
 use Rattle.search_parts.specs.Below.{verdicts}
-use Rattle.global_cache.proofs.Bridge.{graph_by_rule, yes_sort}
+use Rattle.graph_nodes.proofs.Bridge.{graph_by_rule, yes_sort}
 use Rattle.search_parts.proofs.law.yes_is_proof.Goals as goal
 
 pub returns : goal.returns

@@ -1,9 +1,9 @@
 use Rattle.std.proofs.Common.{slice_get, sym, ap, subst, ◌∙◌}
 use Rattle.std.specs.Option.{IfSome}
 use Rattle.search_rules.specs.Below.{open_goal, with_run, IsRun, KeepsFinished, edges_of, verdicts}
-use Rattle.global_cache.proofs.Finished.{KeepsFinished-ended}
-use Rattle.global_cache.proofs.NodeLists.{others_are}
-use Rattle.global_cache.proofs.Slots.{if_some_and, is_some_and}
+use Rattle.graph_nodes.proofs.Finished.{KeepsFinished-ended}
+use Rattle.graph_nodes.proofs.NodeLists.{others_are}
+use Rattle.graph_nodes.proofs.Slots.{if_some_and, is_some_and}
 use Rattle.search_rules.proofs.justified.Finishing.{open_for_run}
 use Rattle.search_rules.proofs.nodes.finish_by.Goals as goal
 

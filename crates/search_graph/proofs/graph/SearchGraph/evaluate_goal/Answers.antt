@@ -1,6 +1,6 @@
 use Rattle.std.proofs.Common.{◌∙◌, ap, sym, Ok, true, false, inl, inr, refl, subst}
-use Rattle.global_cache.proofs.Definites.{definite_is_whole}
-use Rattle.global_cache.proofs.Whole.{whole_stays}
+use Rattle.graph_nodes.proofs.Definites.{definite_is_whole}
+use Rattle.graph_nodes.proofs.Whole.{whole_stays}
 use Rattle.search_graph.proofs.turns.Loops.{call_among, call_deciding, call_of, call_over, call_among_begins, call_begins, call_deciding_begins, call_over_begins, some_call_begins}
 use Rattle.search_graph.proofs.promises.StoredDepths.{stores_within}
 use Rattle.search_graph.proofs.promises.Promises.{call_is_stored, definite_decides, ended_by_runs, ended_plain, ended_within, ended_paid, stopped_by_runs, stopped_within, stopped_paid}

@@ -4,9 +4,9 @@ use Rattle.std.proofs.lemmas.List.Elements.{All-get_or}
 use Rattle.std.proofs.lemmas.List.{append-nil, take_all, take_more}
 use Rattle.search_context.proofs.Builders.{builder_goes_on, builder_stays}
 use Rattle.search_graph.specs.Below.{frames_within, PathKind}
-use Rattle.global_cache.proofs.Finished.{KeepsFinished-same, KeepsFinished-then}
+use Rattle.graph_nodes.proofs.Finished.{KeepsFinished-same, KeepsFinished-then}
 use Rattle.global_cache.proofs.Stores.{KeepsResults-same, KeepsResults-then}
-use Rattle.global_cache.proofs.Whole.{whole_stays}
+use Rattle.graph_nodes.proofs.Whole.{whole_stays}
 use Rattle.search_graph.specs.Words.{HasAnswer}
 use Rattle.search_graph.specs.Lists.{AppendsEach, HasLimits, IsAnsweredQuery}
 use Rattle.search_graph.specs.Settled.{TakesTwoRuns}

@@ -1,7 +1,7 @@
 use Rattle.search_moves.specs.Drafts.{HasNoDrafts}
 use Rattle.std.proofs.Common.{ap, refl, subst, sym}
-use Rattle.global_cache.proofs.Definites.{definite_is_whole}
-use Rattle.global_cache.proofs.Whole.{whole_stays}
+use Rattle.graph_nodes.proofs.Definites.{definite_is_whole}
+use Rattle.graph_nodes.proofs.Whole.{whole_stays}
 use Rattle.path_kinds.specs.declared.path.PathKind.TheVariants.{Inductive}
 use Rattle.search_graph.specs.Below.{verdicts}
 use Rattle.search_graph.proofs.promises.WorkedOut.{worked_depths, worked_limits, worked_out, worked_plain, worked_plain_faults, worked_within}

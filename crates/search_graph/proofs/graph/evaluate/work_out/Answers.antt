@@ -10,7 +10,7 @@ use Rattle.search_moves.specs.Drafts.{LeavesReached}
 use Rattle.search_rules.proofs.moves.Questions.{if_err_and, no_ok}
 use Rattle.search_graph.proofs.turns.KeptFates.{not_stored, first_fates, only_stores, then_fates, then_recorded, then_spared}
 use Rattle.search_graph.proofs.turns.Loops.{call_of, only_one, some_call_begins, only_has_graph}
-use Rattle.global_cache.proofs.Finished.{KeepsFinished-nodes}
+use Rattle.graph_nodes.proofs.Finished.{KeepsFinished-nodes}
 use Rattle.search_moves.proofs.two_runs.SettledFaults.{settled_stays}
 use Rattle.search_moves.specs.Settled.{IsSettledStore, Settles, SettlesNext}
 use Rattle.search_rules.specs.Settled.{CallNeedsTwoRuns}

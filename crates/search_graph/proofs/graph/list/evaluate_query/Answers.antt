@@ -3,7 +3,7 @@ use Rattle.std.proofs.lemmas.List.Elements.{All-head}
 use Rattle.search_graph.specs.Lists.{AreEnclosed}
 use Rattle.search_graph.specs.Settled.{TwoRunsAreEnough}
 use Rattle.search_graph.specs.Below.{IsDefinite, IsEnclosed, IsMemoryOrOrder, IsPaid, PathKind, verdicts, Memory, IsPlainTo, IsPlainValue, IsCaused, StoresWithin}
-use Rattle.global_cache.proofs.Finished.{KeepsFinished-same}
+use Rattle.graph_nodes.proofs.Finished.{KeepsFinished-same}
 use Rattle.global_cache.proofs.Stores.{KeepsResults-same}
 use Rattle.search_graph.specs.Words.{HadCause}
 use Rattle.search_graph.proofs.lists.ListAnswers.{IfErr-weaker}

@@ -1,6 +1,6 @@
 use Rattle.std.proofs.Common.{arith, ◌-◌, length, ◌++◌, ◌∷◌, [], ◌≤◌, Some, sym, ap, subst, ◌∙◌}
 use Rattle.search_moves.specs.Below.{open_node, rerun_with, change_newest, verdicts, AreFree, AreJustified, runs_of, AreReady}
-use Rattle.global_cache.proofs.Finished.{KeepsFinished-nodes, KeepsFinished-then}
+use Rattle.graph_nodes.proofs.Finished.{KeepsFinished-nodes, KeepsFinished-then}
 use Rattle.search_rules.proofs.entries.Reruns.{cleared_at, rerun_ready}
 use Rattle.search_rules.proofs.moves.FinishedRuns.{earlier_taken, taken_from, taken_ends, taken_open, taken_placed, reran, reran_with_node, rerun_free, rerun_justified}
 use Rattle.search_rules.proofs.records.EarlierNodes.{earlier_of_nodes, earlier_then, first_there, rerun_stays}

@@ -1,8 +1,0 @@
-use Rattle.std.proofs.Common.{rules, subst₂, sym}
-use Rattle.global_cache.specs.Words.{AreNone}
-use Rattle.global_cache.proofs.MarkedNodes.{none_of}
-use Rattle.global_cache.proofs.marking.Marks.new.Goals as goal
-
-pub returns : goal.returns
-returns c =
-    subst₂ (AreNone c.args.count) (sym (c.in_ok-from_elem.ensures.items_if_clones_equal (λ y is. search rules))) (sym c.in_ok-with_capacity.ensures.items) (none_of c.args.count)

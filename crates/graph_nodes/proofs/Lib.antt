@@ -1,0 +1,16 @@
+pub mod NodeLists
+pub mod Slots
+pub mod Bridge
+pub mod Definites
+pub mod FoundNodes
+pub mod HandedOut
+pub mod Whole
+pub mod ValidCopies
+pub mod Finished
+pub mod Collecting
+pub mod HeldNodes
+pub mod SearchedNodes
+pub mod NearNodes
+pub mod MarkedNodes
+pub mod KeptNodes
+pub mod LetGo
