@@ -1,22 +1,41 @@
 -- Two runs of each pair are enough.
-use Rattle.std.proofs.Common.{◌≡◌, ℕ, ◌≤◌, Bool, true, false, List, length, Some, Result, inl, inr, sym, ◌∙◌, subst}
+use Rattle.std.proofs.Common.{◌≡◌, ℕ, ◌≤◌, Bool, true, false, List, length, Some, Result, inl, inr, refl, sym, ◌∙◌, subst}
 use Rattle.std.proofs.Math.Logic.{∥∥₁_elim}
 use Rattle.std.proofs.lemmas.Bool.{true≢false}
 use Rattle.search_context.specs.Run.{fault_after, IsFitting, IsOrderly}
 use Rattle.search_context.specs.declared.context.Fault.TheVariants.{Conflict}
 use Rattle.search_context.specs.declared.context.Reply.{Reply}
+use Rattle.delegate_parts.specs.declared.outcome.Outcome.TheVariants.{Maybe, No, Overflow, Yes}
 use Rattle.search_rules.specs.Claims.{BreaksOrder, OtherResult, OtherThanStored, OutOfMemory, OutOfOrder, WantsMemory}
 use Rattle.question_lists.proofs.Ranked.{orderly, scripts}
 use Rattle.search_rules.specs.OneKind.{AsksByOneKind}
 use Rattle.structural_types.specs.Below.{Answer, AreDefinite, AreSettled, Cache, CxOf, DelegateOf, Fault, HasOneOfEach, IsCaused, IsDecisive, IsEnclosed, IsMemoryOrOrder, Memory, Outcome, outcome_verdicts, StoredReachNested, TwoRunsAreEnough, verdicts}
-use Rattle.structural_types.specs.Pairs.{askable}
+use Rattle.type_order.specs.Pairs.{askable}
 use Rattle.structural_types.specs.Deciding.{EndsDecided, KeepsDeciding}
-use Rattle.structural_types.specs.Rule.{needs_of, pair, questions_of}
-use Rattle.structural_types.specs.Subtypes.{Form, forms_of}
-use Rattle.structural_types.specs.declared.delegate.Pair.{Pair}
-use Rattle.structural_types.specs.declared.types.Types.{Types}
-use Rattle.structural_types.proofs.Decided.{one_of_each, pairs_are_decisive}
-use Rattle.structural_types.proofs.Enclosed.{all_by_one_kind, enclosed}
+use Rattle.type_order.specs.Rule.{needs_of, pair, questions_of}
+use Rattle.type_order.specs.Subtypes.{Form, forms_of}
+use Rattle.type_order.specs.declared.delegate.Pair.{Pair}
+use Rattle.type_order.specs.declared.types.Types.{Types}
+use Rattle.type_order.proofs.Decided.{pairs_are_decisive}
+use Rattle.type_order.proofs.Enclosed.{all_coinductive, enclosed}
+
+-- results that are both yes, or both no, are equal
+one_of_each : HasOneOfEach outcome_verdicts
+one_of_each Yes Yes h e = refl
+one_of_each No No h e = refl
+one_of_each Yes No h e = absurd cc
+one_of_each Yes Maybe h e = absurd cc
+one_of_each Yes Overflow h e = absurd cc
+one_of_each No Yes h e = absurd cc
+one_of_each No Maybe h e = absurd cc
+one_of_each No Overflow h e = absurd cc
+one_of_each Maybe y h e = absurd (h refl)
+one_of_each Overflow y h e = absurd (h refl)
+
+-- each question is asked coinductively, so all of them are of one kind
+all_by_one_kind : (forms : List Form) → AsksByOneKind (scripts (needs_of forms) (questions_of forms))
+all_by_one_kind forms goal kind asked other other_kind other_asked one _ another _ =
+    all_coinductive forms goal one.replies kind asked one.fitting one.asks ∙ sym (all_coinductive forms other another.replies other_kind other_asked another.fitting another.asks)
 
 -- there is depth enough for all pairs that may be asked
 pub enclosed_at : (types : Types) (depth l r : ℕ) → depth ≡ 18446744073709551615 → l ≤ length (forms_of types) → r ≤ length (forms_of types) →

@@ -1,10 +1,10 @@
 -- What is kept true of the stored answers from one question to the next.
 use Rattle.std.specs.Prelude.{Bool, Contains, List, Result, IfOk, IfErr}
 use Rattle.structural_types.specs.Below.{Answer, AreDefinite, AreSettled, Cache, CxOf, DelegateOf, Fault, HaveNoOverflowOf, IsDefinite, IsMemoryOrOrder, Outcome, outcome_verdicts, script_of, StoredReachNested, StoredSuit, verdicts}
-use Rattle.structural_types.specs.Rule.{needs_of, questions_of}
-use Rattle.structural_types.specs.Pairs.{askable}
-use Rattle.structural_types.specs.Subtypes.{Form}
-use Rattle.structural_types.specs.declared.delegate.Pair.{Pair}
+use Rattle.type_order.specs.Rule.{needs_of, questions_of}
+use Rattle.type_order.specs.Pairs.{askable}
+use Rattle.type_order.specs.Subtypes.{Form}
+use Rattle.type_order.specs.declared.delegate.Pair.{Pair}
 
 -- Each stored answer is yes or no, none met overflow, and the answers of all pairs that may be asked are settled, with nested pairs
 -- that are reached. So two runs of each pair are enough, and the next question is decided, too.

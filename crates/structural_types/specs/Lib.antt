@@ -1,9 +1,3 @@
 pub mod Below
-pub mod Fields
-pub mod Parts
-pub mod Subtypes
-pub mod Order
-pub mod Rule
-pub mod Pairs
 pub mod Deciding
 pub mod Asked

@@ -1,12 +1,11 @@
 //! Whether a type is below another, in words of types alone.
 ghost use Rattle.std.specs.Prelude.{◌≡◌, ◌≤◌, ◌↔◌, true, IfErr, IfOk, List, length};
-ghost use Rattle.structural_types.specs.Subtypes.{IsBelow, forms_of};
+ghost use Rattle.type_order.specs.Subtypes.{IsBelow, forms_of};
 ghost use Rattle.structural_types.specs.Asked.{declared_in};
 ghost use Rattle.structural_types.specs.Below.{IsCaused, IsProved, IsRefuted, Memory, TwoRunsAreEnough};
 ghost use Rattle.structural_types.specs.Deciding.{EndsDecided, KeepsDeciding};
 
-use crate::delegate::{LendsTypes, Pair, PairsOf, TypesDelegate};
-use crate::subtyping::Subtyping;
+use crate::subtyping::{Subtyping, TypesDelegate};
 use delegate_parts::{Builder, ContextOf, Outcome};
 use question_lists::Listed;
 use search_graph::graph::SearchGraph;
@@ -15,6 +14,7 @@ use search_parts::context::{Answer, Cx, Delegate, Fault};
 use search_parts::global_cache::GlobalCache;
 use search_parts::path::PathKind;
 use std::alloc::Global;
+use type_order::{LendsTypes, Pair, PairsOf};
 
 // A cache that has no answers yet.
 fn empty_cache<T: LendsTypes>(alloc: Global, types: T) -> GlobalCache<TypesDelegate<T>>

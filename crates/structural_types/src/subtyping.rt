@@ -1,10 +1,14 @@
 //! What is kept from one question about types to the next.
 ghost use Rattle.structural_types.specs.Deciding.{KeepsDeciding};
-ghost use Rattle.structural_types.specs.Subtypes.{forms_of};
+ghost use Rattle.type_order.specs.Subtypes.{forms_of};
 
-use crate::delegate::{LendsTypes, Pair, TypesDelegate};
+use question_lists::ListsDelegate;
 use search_graph::graph::SearchGraph;
 use search_parts::global_cache::GlobalCache;
+use type_order::{LendsTypes, Pair, PairsOf};
+
+/// The delegate of subtypes, which has eight runs of a pair and the provisional cache.
+pub type TypesDelegate<T> = ListsDelegate<PairsOf<T>, 8, 1>;
 
 /// Decides which of the types that a `T` lends, as `&Types` does, are below which. What one question finds out is used in the next ones.
 #[derive(Drop)]

@@ -3,8 +3,8 @@ use Rattle.std.proofs.Common.{◌≡◌, List, [], ◌∷◌, ◌++◌, arith, s
 use Rattle.std.proofs.lemmas.List.Elements.{All-push}
 use Rattle.std.specs.Prelude.{IfOk}
 use Rattle.line_texts.specs.Questions.{AnsweredQuestion}
-use Rattle.structural_types.specs.declared.delegate.Pair.{Pair}
-use Rattle.structural_types.specs.declared.types.Form.{Form}
+use Rattle.type_order.specs.declared.delegate.Pair.{Pair}
+use Rattle.type_order.specs.declared.types.Form.{Form}
 use Rattle.subtypes.specs.Answers.{AreRight, Came, IsTold}
 use Rattle.type_texts.specs.declared.table.TypeTable.{TypeTable}
 use Rattle.type_texts.specs.Table.{forms_in}

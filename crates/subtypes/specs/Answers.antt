@@ -4,9 +4,9 @@ use Rattle.std.specs.Option.{unwrap_or}
 use Rattle.delegate_parts.specs.declared.outcome.Outcome.{Outcome}
 use Rattle.line_texts.specs.Questions as asked
 use Rattle.search_context.specs.declared.context.Fault.{Fault}
-use Rattle.structural_types.specs.declared.delegate.Pair.{Pair}
-use Rattle.structural_types.specs.Subtypes.{IsBelow}
-use Rattle.structural_types.specs.declared.types.Form.{Form}
+use Rattle.type_order.specs.declared.delegate.Pair.{Pair}
+use Rattle.type_order.specs.Subtypes.{IsBelow}
+use Rattle.type_order.specs.declared.types.Form.{Form}
 use Rattle.subtypes.specs.Told.{line_told}
 use Rattle.subtypes.specs.declared.program.questions.Told.{Told}
 use Rattle.type_texts.specs.declared.table.TypeTable.{TypeTable}

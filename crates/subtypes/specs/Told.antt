@@ -3,7 +3,7 @@ use Rattle.std.specs.Prelude.{ℕ, Bool, if◌then◌else◌, List, ◌++◌, Re
 use Rattle.search_context.specs.declared.context.Fault.{Fault}
 use Rattle.search_context.specs.declared.context.Fault.TheVariants.{Conflict, Memory, Protocol, Validation}
 use Rattle.delegate_parts.specs.declared.outcome.Outcome.{Outcome}
-use Rattle.structural_types.specs.declared.delegate.Pair.{Pair}
+use Rattle.type_order.specs.declared.delegate.Pair.{Pair}
 use Rattle.subtypes.specs.declared.program.questions.Told.{Told}
 
 -- the answer's word

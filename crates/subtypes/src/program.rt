@@ -13,8 +13,8 @@ use questions::answer_questions;
 use std::alloc::{AllocError, Global};
 use std::io;
 use std::io::{Read, Write};
-use structural_types::Types;
 use thiserror::Error;
+use type_order::Types;
 use type_texts::{ReadFault, TypeTable};
 
 /// Why the program ended early.

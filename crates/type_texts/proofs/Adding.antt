@@ -4,10 +4,10 @@ use Rattle.std.specs.Prelude.{Contains, slice_get}
 use Rattle.std.specs.List.{AllZip, filter_map}
 use Rattle.std.proofs.lemmas.List.{append-nil}
 use Rattle.std.proofs.lemmas.List.Elements.{filter_map-append}
-use Rattle.structural_types.specs.declared.delegate.Pair.{Pair}
-use Rattle.structural_types.specs.declared.types.Form.{Form}
-use Rattle.structural_types.specs.declared.types.Form.TheVariants as types
-use Rattle.structural_types.specs.declared.fields.Field.{Field}
+use Rattle.type_order.specs.declared.delegate.Pair.{Pair}
+use Rattle.type_order.specs.declared.types.Form.{Form}
+use Rattle.type_order.specs.declared.types.Form.TheVariants as types
+use Rattle.type_order.specs.declared.fields.Field.{Field}
 use Rattle.type_texts.specs.declared.table.TypeTable.{TypeTable}
 use Rattle.type_texts.specs.declared.written.WrittenField.{WrittenField}
 use Rattle.type_texts.specs.Grammar.{Base, Bottom, Function, Meaning, NamedField, Record, Top, Union}

@@ -3,10 +3,10 @@ use Rattle.std.proofs.Common.{◌≡◌, ℕ, zero, suc, ◌<◌, List, [], ◌�
 use Rattle.std.specs.Prelude.{Contains, slice_get}
 use Rattle.std.specs.List.{AllZip, filter_map}
 use Rattle.std.proofs.lemmas.Option.{slice_get_within}
-use Rattle.structural_types.specs.declared.fields.Field.{Field}
-use Rattle.structural_types.specs.declared.types.Form.{Form}
-use Rattle.structural_types.specs.declared.types.Form.TheVariants as types
-use Rattle.structural_types.specs.Order.{AreDeclared, parts_of}
+use Rattle.type_order.specs.declared.fields.Field.{Field}
+use Rattle.type_order.specs.declared.types.Form.{Form}
+use Rattle.type_order.specs.declared.types.Form.TheVariants as types
+use Rattle.type_order.specs.Order.{AreDeclared, parts_of}
 use Rattle.type_texts.specs.Grammar.{Ask, Base, Bottom, Declare, Function, Meaning, NamedField, Nothing, Record, Top, Union}
 use Rattle.type_texts.specs.Table.{meaning_in}
 use Rattle.type_texts.specs.Words.{declared_by, forms_in, IsForm, IsNumberOf, IsSameField, IsTableOf, name_in, names_of, Statement, statement_of}

@@ -4,11 +4,11 @@ use Rattle.std.specs.Prelude.{Contains, slice_get, slice_index, slice_index_or}
 use Rattle.std.specs.Global.{Vec}
 use Rattle.std.proofs.lemmas.List.{length-map, map-append, take_more}
 use Rattle.std.proofs.lemmas.List.Elements.{All-from_get_or, Contains-get_or}
-use Rattle.structural_types.specs.declared.types.Form.{Form}
-use Rattle.structural_types.specs.declared.types.Form.TheVariants.{Base, Bottom, Function, Record, Top, Union}
-use Rattle.structural_types.specs.Order.{AreDeclared, IsContractive}
-use Rattle.structural_types.specs.Rule.{alternatives_in}
-use Rattle.structural_types.specs.Subtypes.{IsUnion}
+use Rattle.type_order.specs.declared.types.Form.{Form}
+use Rattle.type_order.specs.declared.types.Form.TheVariants.{Base, Bottom, Function, Record, Top, Union}
+use Rattle.type_order.specs.Order.{AreDeclared, IsContractive}
+use Rattle.type_order.specs.Rule.{alternatives_in}
+use Rattle.type_order.specs.Subtypes.{IsUnion}
 use Rattle.type_texts.specs.Words.{AreComponents, HasStep, IsUnionOfItself, StaysInside, successor_lists, union_lists}
 
 -- the alternatives at a place

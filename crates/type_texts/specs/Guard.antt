@@ -1,7 +1,7 @@
 -- Unions that lead back to themselves through unions alone.
 use Rattle.std.specs.Prelude.{ℕ, List, map, Some}
-use Rattle.structural_types.specs.Rule.{alternatives_in}
-use Rattle.structural_types.specs.declared.types.Form.{Form}
+use Rattle.type_order.specs.Rule.{alternatives_in}
+use Rattle.type_order.specs.declared.types.Form.{Form}
 pub use Rattle.strong_components.specs.Components.{AreComponents, HasStep, Reaches, StaysInside, successor_lists}
 
 -- the alternatives of each type, by their numbers

@@ -1,11 +1,11 @@
 -- The table that a text's statements make.
 use Rattle.std.specs.Prelude.{◌≡◌, ℕ, List, [], ◌∷◌, ◌++◌, map, Contains, Option, Some, None, slice_get}
 use Rattle.std.specs.List.{AllZip, filter_map}
-use Rattle.structural_types.specs.declared.types.Form.{Form}
-use Rattle.structural_types.specs.Subtypes.{forms_of}
-use Rattle.structural_types.specs.declared.types.Form.TheVariants as types
-use Rattle.structural_types.specs.declared.delegate.Pair.{Pair}
-use Rattle.structural_types.specs.declared.fields.Field.{Field}
+use Rattle.type_order.specs.declared.types.Form.{Form}
+use Rattle.type_order.specs.Subtypes.{forms_of}
+use Rattle.type_order.specs.declared.types.Form.TheVariants as types
+use Rattle.type_order.specs.declared.delegate.Pair.{Pair}
+use Rattle.type_order.specs.declared.fields.Field.{Field}
 use Rattle.type_texts.specs.declared.table.TypeTable.{TypeTable}
 use Rattle.type_texts.specs.Grammar.{Ask, Base, Bottom, Declare, Function, Meaning, NamedField, Nothing, Record, Statement, Top, Union}
 

@@ -1,7 +1,7 @@
 -- What a whole text says.
 use Rattle.std.specs.Prelude.{◌≡◌, ℕ, ◌+◌, List, take, All, Some, slice_get}
 use Rattle.std.specs.List.{AllZip, filter_map}
-use Rattle.structural_types.specs.Order.{AreDeclared, IsContractive}
+use Rattle.type_order.specs.Order.{AreDeclared, IsContractive}
 use Rattle.type_texts.specs.declared.table.TypeTable.{TypeTable}
 use Rattle.type_texts.specs.Grammar.{AreDistinct, IsMalformed, Says, Statement}
 use Rattle.line_texts.specs.Lines.{lines_of}

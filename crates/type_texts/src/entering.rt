@@ -8,7 +8,7 @@ use crate::table::TypeTable;
 use crate::written::{Written, WrittenField};
 use search_context::context::NoMemory;
 use std::alloc::{AllocError, AllocFailed, Global};
-use structural_types::{Field, Form, Pair};
+use type_order::{Field, Form, Pair};
 
 /// Why what a line says was not entered.
 #[derive(Clone, Copy)]

@@ -1,15 +1,15 @@
 //! Unions that lead back to themselves through unions alone.
 ghost use Rattle.std.specs.Prelude.{◌≡◌, ◌==◌, ℕ, Some, None, IfOk, take, length, slice_get, slice_index};
 ghost use Rattle.std.specs.List.{list_any};
-ghost use Rattle.structural_types.specs.Order.{AreDeclared, IsContractive};
-ghost use Rattle.structural_types.specs.Rule.{alternatives_in};
-ghost use Rattle.structural_types.specs.Subtypes.{forms_of};
+ghost use Rattle.type_order.specs.Order.{AreDeclared, IsContractive};
+ghost use Rattle.type_order.specs.Rule.{alternatives_in};
+ghost use Rattle.type_order.specs.Subtypes.{forms_of};
 ghost use Rattle.type_texts.specs.Words.{HasStep, IsUnionOfItself, successor_lists, union_lists};
 
 use search_context::context::NoMemory;
 use std::alloc::Global;
 use strong_components::components;
-use structural_types::{Form, Types};
+use type_order::{Form, Types};
 
 /// The first of so many types that is a union of itself through unions alone, if there is one.
 pub(crate) fn unguarded_union(

@@ -1,5 +1,5 @@
 //! Texts that declare types and ask of two of them whether the one is below the other, and what such a text says: a table
-//! of the types of `structural_types`, with their names.
+//! of the types of `type_order`, with their names.
 //!
 //! | File of `specs/` | Has |
 //! |---|---|

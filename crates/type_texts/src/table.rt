@@ -5,7 +5,7 @@ ghost use Rattle.type_texts.specs.Words.{forms_in, labels_of, names_of, question
 
 use line_texts::Names;
 use std::alloc::Global;
-use structural_types::{Pair, Types};
+use type_order::{Pair, Types};
 
 /// Types with their names, and the questions of the text. The number of a type is the place of its declaration.
 #[derive(Drop)]

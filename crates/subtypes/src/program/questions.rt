@@ -3,7 +3,7 @@ ghost use Rattle.std.specs.Prelude.{◌≡◌, ◌⊎◌, ◌++◌, IfErr, IfOk,
 ghost use Rattle.std.specs.Io.KnownBytes.{Appends};
 ghost use Rattle.line_texts.specs.Writing.{AppendsBeginning, Passes};
 ghost use Rattle.structural_types.specs.Asked.{declared_in};
-ghost use Rattle.structural_types.specs.Subtypes.{forms_of};
+ghost use Rattle.type_order.specs.Subtypes.{forms_of};
 ghost use Rattle.subtypes.specs.Answers.{AreAllTold, AreFirstTold, IsTold, name_of};
 ghost use Rattle.subtypes.specs.Told.{answer_word_of, fault_word_of, line_told, words_of_answer};
 ghost use Rattle.type_texts.specs.Table.{forms_in};
@@ -16,7 +16,8 @@ use search_parts::context::Fault;
 use std::alloc::Global;
 use std::io;
 use std::io::Write;
-use structural_types::{LendsTypes, Pair, Subtyping};
+use structural_types::Subtyping;
+use type_order::{LendsTypes, Pair};
 use type_texts::TypeTable;
 
 /// A write of its own for each line would take longer than a question that the cache answers, so this many bytes

@@ -7,7 +7,8 @@ use delegate_parts::Outcome;
 use search_parts::context::{Fault, NoMemory};
 use std::alloc::Global;
 use std::collections::HashSet;
-use structural_types::{Field, Form, LendsTypes, Pair, Subtyping, Types};
+use structural_types::Subtyping;
+use type_order::{Field, Form, LendsTypes, Pair, Types};
 use type_texts::TypeTable;
 
 /// A step from a pair to one of its parts.

@@ -2,7 +2,7 @@
 
 use crate::program::reason::{End, Step};
 use search_parts::context::NoMemory;
-use structural_types::Pair;
+use type_order::Pair;
 use type_texts::TypeTable;
 
 /// Writes the steps, the first of which stands last: ` at tail.head: `, or `: ` where none has a name.

@@ -1,9 +1,9 @@
 use Rattle.std.proofs.Common.{refl, sym, ap, subst, inl, inr, arith}
 use Rattle.std.proofs.Math.Logic.{∥∥₁_elim, ∥∥₁_map}
 use Rattle.structural_types.specs.Below.{is_no, is_yes}
-use Rattle.structural_types.specs.Pairs.{askable}
-use Rattle.structural_types.specs.Subtypes.{IsBelow, forms_of}
-use Rattle.structural_types.proofs.Decided.{proved_below, refuted_not_below, yes_or_no}
+use Rattle.type_order.specs.Pairs.{askable}
+use Rattle.type_order.specs.Subtypes.{IsBelow, forms_of}
+use Rattle.type_order.proofs.Decided.{proved_below, refuted_not_below, yes_or_no}
 use Rattle.structural_types.proofs.Enough.{enough, only_memory, stays_ready}
 use Rattle.structural_types.proofs.ask.asked.Goals as goal
 

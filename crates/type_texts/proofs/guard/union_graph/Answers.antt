@@ -1,5 +1,5 @@
 use Rattle.std.proofs.Common.{◌∙◌, arith}
-use Rattle.structural_types.specs.Subtypes.{forms_of}
+use Rattle.type_order.specs.Subtypes.{forms_of}
 use Rattle.type_texts.proofs.Unions.{rows_more}
 use Rattle.type_texts.proofs.guard.union_graph.Goals as goal
 

@@ -1,5 +1,5 @@
 use Rattle.std.proofs.Common.{◌≡◌, take}
-use Rattle.structural_types.specs.Subtypes.{forms_of}
+use Rattle.type_order.specs.Subtypes.{forms_of}
 use Rattle.type_texts.specs.Words.{successor_lists, union_lists}
 use Rattle.type_texts.proofs.guard.union_graph.Given as goal
 

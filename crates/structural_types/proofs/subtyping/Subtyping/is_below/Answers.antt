@@ -1,8 +1,8 @@
 use Rattle.std.proofs.Common.{◌≤◌, length, min, ap, sym, ◌∙◌, subst}
 use Rattle.std.proofs.Math.Logic.{∥∥₁_map}
 use Rattle.std.proofs.Math.Nat.{min-le_right}
-use Rattle.structural_types.specs.Subtypes.{forms_of}
-use Rattle.structural_types.proofs.Alike.{known_of_all}
+use Rattle.type_order.specs.Subtypes.{forms_of}
+use Rattle.type_order.proofs.Alike.{known_of_all}
 use Rattle.structural_types.proofs.Enough.{ready_for}
 use Rattle.structural_types.proofs.subtyping.Subtyping.is_below.Goals as goal
 

@@ -1,6 +1,0 @@
-use Rattle.structural_types.specs.Subtypes.{forms_of}
-use Rattle.structural_types.proofs.Reflexive.{below_itself}
-use Rattle.structural_types.proofs.types.Types.is_below_itself.Goals as goal
-
-pub returns : goal.returns
-returns c = below_itself (forms_of c.args.self.now) c.requires.declared c.args.number c.requires.within

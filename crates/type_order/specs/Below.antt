@@ -1,0 +1,12 @@
+-- What the crates below have, from one place.
+pub use Rattle.path_kinds.specs.declared.path.PathKind.TheVariants.{Coinductive}
+pub use Rattle.delegate_parts.specs.Outcome.{outcome_verdicts}
+pub use Rattle.delegate_parts.specs.declared.outcome.Outcome.{Outcome}
+pub use Rattle.evaluations.specs.Enclosed.{IsEnclosed, NoQuestionLeadsOut}
+pub use Rattle.question_lists.specs.Needs.{Proves, Refutes}
+pub use Rattle.question_lists.specs.declared.needs.Needs.{Needs}
+pub use Rattle.question_lists.specs.declared.needs.Needs.TheVariants.{All, Any}
+pub use Rattle.search_context.specs.Question.{IsWithin, Overlap, Question}
+pub use Rattle.search_context.specs.Graph.{GraphNode, HasEdge, HasGoal, IsProofGraph, IsRefutationGraph, question_of}
+pub use Rattle.search_context.specs.Rank.{AsksOnly}
+pub use Rattle.search_context.specs.declared.context.Edge.{Edge}
