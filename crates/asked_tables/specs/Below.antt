@@ -1,6 +1,4 @@
 -- What the crates below have, from one place.
-pub use Rattle.path_kinds.specs.declared.path.PathKind.{PathKind}
-pub use Rattle.path_kinds.specs.declared.path.PathKind.TheVariants.{Coinductive, ForcedAmbiguity, Inductive, Unknown}
 pub use Rattle.delegate_parts.specs.Outcome.{is_no, is_yes}
 pub use Rattle.delegate_parts.specs.declared.outcome.Outcome.{Outcome}
 pub use Rattle.delegate_parts.specs.declared.outcome.Outcome.TheVariants.{Maybe, No, Overflow, Yes}

@@ -1,4 +1,3 @@
 pub mod Below
 pub mod Early
 pub mod EarlyLaws
-pub mod Letters

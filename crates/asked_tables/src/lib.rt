@@ -1,5 +1,5 @@
 //! What programs of tests share that ask tables of rules: the calls of a search, the ways to ask a goal, questions as
-//! lists, a delegate of the rules whose scripts stop early, how proof trees are written, and runs as text.
+//! lists, a delegate of the rules whose scripts stop early, and runs as text.
 #![tactic(auto)]
 
 pub mod asked;
@@ -8,4 +8,3 @@ pub mod early;
 pub mod letters;
 pub mod lists;
 pub mod runs;
-pub mod words;

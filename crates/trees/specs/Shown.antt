@@ -1,22 +1,6 @@
 -- What is shown of a question.
-use Rattle.std.specs.Prelude.{◌≡◌, ℕ, ◌≤◌, Bool, true, false, List, [], ◌++◌, codes, decimal, is_ok, Result, Ok, Err, IfOk}
-use Rattle.std.specs.Option.{unwrap_or}
-use Rattle.trees.specs.Below.{PathKind, Coinductive, ForcedAmbiguity, Inductive, Unknown, Outcome, word_of, text_of, WordsOf, Entry, name_of, Goal, Rules, Answer, Fault, Conflict, Memory, Protocol, Validation, CxOf, Cache, IsPlainTo, IsPlainValue, IsProved, IsRefuted, Reply, Request}
-
--- the letter of a kind
-abbrev pub kind_letter : PathKind → List ℕ
-kind_letter Inductive = codes "i"
-kind_letter Unknown = codes "u"
-kind_letter Coinductive = codes "c"
-kind_letter ForcedAmbiguity = codes "f"
-
--- a goal's name; a goal of another table may have none
-abbrev pub name_or_none : Rules → Goal → List ℕ
-name_or_none rules goal = unwrap_or (name_of rules goal) []
-
--- how goals, results and kinds are written
-abbrev pub words_of : Rules → WordsOf Goal Outcome
-words_of rules = record { kind = kind_letter; goal = name_or_none rules; outcome = word_of }
+use Rattle.std.specs.Prelude.{◌≡◌, ℕ, ◌≤◌, Bool, true, false, List, ◌++◌, codes, decimal, is_ok, Result, Ok, Err, IfOk}
+use Rattle.trees.specs.Below.{Outcome, word_of, text_of, Entry, name_or_none, words_of, Goal, Rules, Answer, Fault, Conflict, Memory, Protocol, Validation, CxOf, Cache, IsPlainTo, IsPlainValue, IsProved, IsRefuted, Reply, Request}
 
 -- the fault's word
 abbrev pub fault_word_of : Fault Goal Outcome → List ℕ

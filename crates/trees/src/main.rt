@@ -3,7 +3,6 @@
 #![tactic(auto)]
 
 mod program;
-mod words;
 
 use std::process::ExitCode;
 

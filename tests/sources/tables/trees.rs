@@ -1,7 +1,6 @@
 //! Proof trees that are recorded.
 
 use asked_tables::calls::{new_cache, work_out};
-use asked_tables::words::TableWords;
 use delegate_parts::{Builder, Outcome};
 use proof_trees::{Recorder, Recording, write_entries};
 use rule_tables::{Goal, Rules};
@@ -9,6 +8,7 @@ use search_parts::context::{Cx, Delegate};
 use std::alloc::Global;
 use std::io::Write;
 use std::test::Fail;
+use table_words::TableWords;
 
 /// What is recorded of goals of a table.
 type TableRecorder = Recorder<Builder, Goal, Outcome>;

@@ -3,7 +3,6 @@ ghost use Rattle.std.specs.Prelude.{◌≡◌, IfOk, OnOk};
 ghost use Rattle.std.specs.Io.KnownBytes.{Appends};
 ghost use Rattle.trees.specs.Shown.{answer_words, fault_word_of, IsTreeShown};
 
-use crate::words::TableWords;
 use delegate_parts::{Builder, Outcome};
 use proof_trees::{Recorder, Recording, Words, write_entries};
 use rule_tables::delegate::Table;
@@ -14,6 +13,7 @@ use search_parts::global_cache::GlobalCache;
 use std::alloc::Global;
 use std::io;
 use std::io::Write;
+use table_words::TableWords;
 
 /// Writes the tree of the goal at this depth, its answer, and an empty line. The result is whether no fault was met. The
 /// one error is want of memory for the text.

@@ -1,20 +1,28 @@
-//! How goals, results and kinds of steps are written, as in the rules.
+//! How the proof trees of tables of rules are written: goals by their names, results by their words, and kinds of steps by
+//! their letters, as in the rules.
+//!
+//! | File of `specs/` | Has |
+//! |---|---|
+//! | `Words` | how goals, results and kinds are written |
+#![tactic(auto)]
 
+use delegate_parts::Outcome;
+use path_kinds::path::PathKind;
 use proof_trees::Words;
-use rule_tables::{Goal, Outcome, Rules};
-use search_parts::path::PathKind;
+use rule_tables::{Goal, Rules};
 use std::io;
 use std::io::Write;
 
-/// The words of a table.
+/// The words of a table of rules.
 #[derive(Drop)]
-pub(crate) struct TableWords<'a> {
-    pub(crate) rules: &'a Rules,
+pub struct TableWords<'a> {
+    /// The rules, which have the names of the goals.
+    pub rules: &'a Rules,
 }
 
 impl Words<Goal, Outcome> for TableWords<'_> {
-    ghost use Rattle.trees.specs.Below.{word_of};
-    ghost use Rattle.trees.specs.Shown.{kind_letter, name_or_none};
+    ghost use Rattle.table_words.specs.Below.{word_of};
+    ghost use Rattle.table_words.specs.Words.{kind_letter, name_or_none};
 
     ghost kind_words = { λ words kind. kind_letter kind };
 
