@@ -8,11 +8,11 @@ use Rattle.std.proofs.lemmas.List.Folds.{list_all-append}
 use Rattle.std.specs.Io.KnownBytes.{Appends, Keeps}
 use Rattle.std.specs.List.{list_all}
 use Rattle.shown_graphs.specs.Below.{Goal, Outcome, questions_of, Reply, Request, Rules, Verdicts}
-use Rattle.shown_graphs.specs.Checked.{IsRightlyShown}
-use Rattle.shown_graphs.specs.Data.{PlainClaim}
-use Rattle.shown_graphs.specs.Shown.{WereAsked, AreShown, claims_of, HasClaims, is_fine, WritesPage}
-use Rattle.shown_graphs.specs.declared.answer.Came.{Came}
-use Rattle.shown_graphs.specs.declared.page.Page.{Page}
+use Rattle.graph_pages.specs.Checked.{IsRightlyShown}
+use Rattle.graph_pages.specs.Data.{PlainClaim}
+use Rattle.graph_pages.specs.Shown.{WereAsked, AreShown, claims_of, HasClaims, is_fine, WritesPage}
+use Rattle.graph_pages.specs.declared.answer.Came.{Came}
+use Rattle.graph_pages.specs.declared.page.Page.{Page}
 
 kept_appends : (old mid new : Option (List ℕ)) (bytes : List ℕ) → Keeps old mid → Appends mid new bytes → Appends old new bytes
 kept_appends None mid new bytes kept more = tt

@@ -10,9 +10,9 @@ use Rattle.search_context.proofs.Graphs.{Contains-map, HasEdge-from, IsReached-s
 use Rattle.search_context.specs.Graph.{HasEdge, IsReached, IsWalk, original_edge}
 use Rattle.search_context.specs.Valid.{goal_node_of, goal_nodes_of}
 use Rattle.search_context.specs.declared.context.Edge.{Edge}
-use Rattle.shown_graphs.proofs.Lists.{item_at}
+use Rattle.graph_pages.proofs.Lists.{item_at}
 use Rattle.shown_graphs.specs.Below.{Goal, Node, Outcome}
-use Rattle.shown_graphs.specs.Checked.{AreReached}
+use Rattle.graph_pages.specs.Checked.{AreReached}
 
 module _ (nodes : List (CacheNode Goal Outcome)) (root : ℕ) (copy : List (Node Goal Outcome)) (numbers : List ℕ) (c : Copies nodes root copy numbers) where
   -- a place of the copy that is reached in it, and stands for this node

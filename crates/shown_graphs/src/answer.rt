@@ -1,52 +1,16 @@
 //! One question: it is asked, and the graph of a definite answer is checked before anything is shown of it.
-ghost use Rattle.std.specs.Prelude.{◌↔◌, IfOk, IsTrue};
-ghost use Rattle.shown_graphs.specs.Below.{IsValidFor, verdicts};
-ghost use Rattle.shown_graphs.specs.Checked.{IsRightlyShown, ShowsNoGraph, verdict_of};
+ghost use Rattle.std.specs.Prelude.{IfOk};
+ghost use Rattle.shown_graphs.specs.Below.{verdicts};
+ghost use Rattle.graph_pages.specs.Checked.{IsRightlyShown};
 
-use crate::progress::Progress;
-use crate::watch::{Reason, Watcher};
-use crate::watching::Watching;
 use delegate_parts::Builder;
-use graph_check::check_graph;
+use graph_pages::{Came, Progress, Watcher, Watching, accepts, without_graph};
 use rule_tables::{Goal, Outcome};
-use search_context::context::{Answer, Cx, Delegate, Fault, NoMemory, Node, ProofGraph};
+use search_context::context::{Answer, Cx, Delegate, Fault, NoMemory};
 use search_context::path::PathKind;
 use search_graph::graph::SearchGraph;
 use search_parts::global_cache::GlobalCache;
 use std::alloc::Global;
-
-/// What a question came to.
-#[derive(Drop)]
-pub(crate) enum Came {
-    /// A yes or a no, with its graph, which the checker accepted.
-    Graph {
-        outcome: Outcome,
-        nodes: Vec<Node<Goal, Outcome>>,
-    },
-    /// A maybe or an overflow.
-    NoGraph {
-        outcome: Outcome,
-        reason: Reason,
-    },
-    /// A yes or a no whose graph is missing or was refused.
-    Unchecked(Outcome),
-    Fault(Fault<Goal, Outcome>),
-}
-
-impl Came {
-    ghost use Rattle.std.specs.Prelude.{◌≡◌};
-    ghost use Rattle.shown_graphs.specs.Shown.{is_fine};
-
-    /// Whether the question was answered, and its graph accepted if it has one.
-    pub(crate) fn is_fine(&self) -> bool
-        ensures { result ≡ is_fine self.now }
-    {
-        match self {
-            Came::Graph { .. } | Came::NoGraph { .. } => true,
-            Came::Unchecked(_) | Came::Fault(_) => false,
-        }
-    }
-}
 
 /// Asks the goal at this depth, and checks the graph of a definite answer. The watcher is that of all questions over the
 /// cache.
@@ -107,36 +71,4 @@ where
     } else {
         Ok(Came::Unchecked(outcome))
     }
-}
-
-// What the question came to where no graph comes with its outcome.
-fn without_graph<P: Progress>(watcher: &mut Watcher<P>, outcome: Outcome) -> Came
-    ensures { ShowsNoGraph result }
-{
-    match outcome {
-        Outcome::Yes | Outcome::No => Came::Unchecked(outcome),
-        Outcome::Maybe | Outcome::Overflow => {
-            let reason = watcher.reason(outcome);
-            Came::NoGraph { outcome, reason }
-        }
-    }
-}
-
-/// Whether the checker accepts the graph for the goal and the outcome.
-pub(crate) fn accepts<X, D>(
-    alloc: Global,
-    cx: X,
-    graph: &ProofGraph<X>,
-    goal: Goal,
-    outcome: Outcome,
-) -> Result<bool, NoMemory>
-where
-    X: Cx<Input = Goal, Result = Outcome>,
-    D: Delegate<Cx = X, ProofTreeBuilder = Builder>,
-    ensures { IfOk result (λ accepted. IsTrue accepted ↔
-        IsValidFor (verdicts X.Cx) (verdict_of outcome) (D.script cx) graph.now.nodes.items goal) }
-{
-    // The frames that the check starts are none of the search's.
-    let mut builder = Builder::new(true);
-    check_graph::<D>(alloc, cx, graph, goal, outcome.verdict(), &mut builder)
 }

@@ -1,16 +1,12 @@
 //! How the questions of a text are shown.
 ghost use Rattle.std.specs.Prelude.{◌≡◌, ◌⊎◌, IfErr, IfOk};
 ghost use Rattle.shown_graphs.specs.Below.{verdicts};
-ghost use Rattle.shown_graphs.specs.Program.{EndsShowing, ShowsAnswers};
-ghost use Rattle.shown_graphs.specs.Shown.{AreShown};
+ghost use Rattle.graph_pages.specs.Program.{EndsShowing, ShowsAnswers};
+ghost use Rattle.graph_pages.specs.Shown.{AreShown};
 
 use crate::answer::ask;
-use crate::page::{Form, Page};
-use crate::program::Stop;
-use crate::progress::Progress;
-use crate::watch::Watcher;
-use crate::watching::Watching;
 use delegate_parts::Builder;
+use graph_pages::{Form, Page, Progress, Stop, Watcher, Watching};
 use line_texts::read_input;
 use rule_tables::delegate::Table;
 use rule_tables::{Goal, Outcome, Rules, TableDelegate};

@@ -1,4 +1,4 @@
-use Rattle.shown_graphs.proofs.Ends.{bad_line_by_status, status_in_range, told_by_status}
+use Rattle.graph_pages.proofs.Ends.{bad_line_by_status, status_in_range, told_by_status}
 use Rattle.shown_graphs.proofs.program.explain_within.Goals as goal
 
 pub returns-clause-status : goal.returns-clause-status

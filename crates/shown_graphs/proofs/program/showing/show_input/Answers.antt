@@ -1,9 +1,9 @@
 use Rattle.std.proofs.Common.{◌≡◌, [], refl, subst}
-use Rattle.shown_graphs.proofs.Ends.{shown_of_text}
+use Rattle.graph_pages.proofs.Ends.{shown_of_text}
 use Rattle.shown_graphs.proofs.program.showing.show_input.Goals as goal
 use Rattle.shown_graphs.specs.Below.{Reads, Rules}
-use Rattle.shown_graphs.specs.Shown.{HasClaims}
-use Rattle.shown_graphs.specs.declared.page.Form.TheVariants.{Data}
+use Rattle.graph_pages.specs.Shown.{HasClaims}
+use Rattle.graph_pages.specs.declared.form.Form.TheVariants.{Data}
 
 pub returns-clause-told : goal.returns-clause-told
 returns-clause-told g c =

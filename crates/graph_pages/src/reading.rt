@@ -1,0 +1,320 @@
+//! Graphs as data: what is read. Nothing in it is trusted.
+ghost use Rattle.std.specs.Prelude.{◌≡◌, ◌≢◌, ℕ, All, List, map, IfErr, IfNone, IfOk, IfSome, ⊤};
+ghost use Rattle.json.specs.Token.{Token as SpecToken};
+ghost use Rattle.graph_pages.specs.Below.{names_of, Outcome as SpecOutcome, Reads, Reply as SpecReply, Rules as SpecRules, word_of};
+ghost use Rattle.graph_pages.specs.Data.{array_tokens, claim_tokens, edge_tokens, goal_tokens, HaveOwnNames, IsClaim, IsEdge, IsNamed, IsNode, kind_tokens, left_in, node_tokens, outcome_tokens, plain_claim, plain_node, PlainClaim, reply_tokens, reply_word, Spells, string_tokens};
+ghost use Rattle.graph_pages.specs.Page.{AreOfPage, IsPage, text_of};
+ghost use Rattle.graph_pages.specs.Stop.{StopsUnless};
+
+mod source;
+
+use crate::stop::Stop;
+use crate::words::kind_of;
+use rule_tables::{Goal, Outcome, ReadFault, Rules};
+use search_context::context::{Edge, Node, Reply};
+use search_context::path::PathKind;
+pub(crate) use source::Source;
+use std::alloc::Global;
+
+/// What is said of a goal, with the graph that is to show it.
+#[derive(Drop)]
+pub(crate) struct Claim {
+    pub(crate) goal: Goal,
+    pub(crate) outcome: Outcome,
+    pub(crate) nodes: Vec<Node<Goal, Outcome>>,
+}
+
+/// Data that was read.
+#[derive(Drop)]
+pub(crate) struct Claims {
+    pub(crate) rules: Rules,
+    pub(crate) all: Vec<Claim>,
+}
+
+/// Reads data as `--json` writes it: the members of each object in the same order, and none beside them. `BadData` tells
+/// before which byte of the text something else was found, and `Memory` that memory is out.
+pub(crate) fn read_claims(alloc: Global, source: &mut Source<'_>) -> Result<Claims, Stop>
+    ensures read { IfOk result
+        (λ claims. IsPage (left_in source.old) claims.rules (map plain_claim claims.all.items)) }
+    ensures refused { IfErr result (StopsUnless (AreOfPage (left_in source.old))) }
+{
+    source.begin_object()?;
+    source.key("rules")?;
+    let text = read_lines(alloc, source)?;
+    let rules = rules_of(alloc, source, text.as_slice())?;
+    source.key("answers")?;
+    let all = read_answers(alloc, source, &rules)?;
+    source.end_object()?;
+    source.end()?;
+    Ok(Claims { rules, all })
+}
+
+// The lines of rules, which stand in an array.
+fn read_lines(alloc: Global, source: &mut Source<'_>) -> Result<Vec<u8>, Stop>
+    ensures spelled { IfOk result (λ text. (lines : List (List ℕ)) × (text.items ≡ text_of lines)
+        × (left_in source.old ≡ array_tokens string_tokens lines (left_in source.new))) }
+    ensures refused { IfErr result
+        (StopsUnless (Spells (λ _. ⊤) (array_tokens string_tokens) (left_in source.old))) }
+{
+    let mut text = Vec::new(alloc);
+    source.begin_array()?;
+    for _ in 0..u64::MAX {
+        if source.is_end_of_array() {
+            return Ok(text);
+        }
+        let line = source.string()?;
+        text.extend_from_slice(line.as_bytes())?;
+        text.push(b'\n')?;
+    }
+    Err(Stop::Memory)
+}
+
+// The rules of this text, which is bad data if a line is malformed.
+fn rules_of(alloc: Global, source: &Source<'_>, text: &[u8]) -> Result<Rules, Stop>
+    ensures read { IfOk result (Reads text.now) }
+    ensures refused { IfErr result (StopsUnless ((rules : SpecRules) × Reads text.now rules)) }
+{
+    match Rules::read(alloc, text) {
+        Ok(rules) => Ok(rules),
+        Err(ReadFault::BadLine(_)) => Err(source.fault()),
+        Err(ReadFault::Memory) => Err(Stop::Memory),
+    }
+}
+
+fn read_answers(alloc: Global, source: &mut Source<'_>, rules: &Rules) -> Result<Vec<Claim>, Stop>
+    ensures spelled { IfOk result (λ claims. left_in source.old
+        ≡ array_tokens (claim_tokens (names_of rules.now)) (map plain_claim claims.items) (left_in source.new)) }
+    ensures named { IfOk result
+        (λ claims. All (IsClaim (names_of rules.now)) (map plain_claim claims.items)) }
+    ensures refused { IfErr result (StopsUnless (Spells (All (IsClaim (names_of rules.now)))
+        (array_tokens (claim_tokens (names_of rules.now))) (left_in source.old))) }
+{
+    let mut claims = Vec::new(alloc);
+    source.begin_array()?;
+    for _ in 0..u64::MAX {
+        if source.is_end_of_array() {
+            return Ok(claims);
+        }
+        claims.push(read_claim(alloc, source, rules)?)?;
+    }
+    Err(Stop::Memory)
+}
+
+fn read_claim(alloc: Global, source: &mut Source<'_>, rules: &Rules) -> Result<Claim, Stop>
+    ensures spelled { IfOk result (λ claim. left_in source.old
+        ≡ claim_tokens (names_of rules.now) (plain_claim claim) (left_in source.new)) }
+    ensures named { IfOk result (λ claim. IsClaim (names_of rules.now) (plain_claim claim)) }
+
+    // What was written for a graph is read as the same graph, goal and outcome.
+    ensures same { IfOk result (λ claim. (written : PlainClaim) (rest : List SpecToken) →
+        HaveOwnNames (names_of rules.now) → IsClaim (names_of rules.now) written →
+        left_in source.old ≡ claim_tokens (names_of rules.now) written rest → plain_claim claim ≡ written) }
+
+    // It is read, unless memory is out.
+    ensures refused { IfErr result (StopsUnless
+        (Spells (IsClaim (names_of rules.now)) (claim_tokens (names_of rules.now)) (left_in source.old))) }
+{
+    read_members(alloc, source, rules)
+}
+
+// The members of a claim.
+fn read_members(alloc: Global, source: &mut Source<'_>, rules: &Rules) -> Result<Claim, Stop>
+    ensures spelled { IfOk result (λ claim. left_in source.old
+        ≡ claim_tokens (names_of rules.now) (plain_claim claim) (left_in source.new)) }
+    ensures named { IfOk result (λ claim. IsClaim (names_of rules.now) (plain_claim claim)) }
+    ensures refused { IfErr result (StopsUnless
+        (Spells (IsClaim (names_of rules.now)) (claim_tokens (names_of rules.now)) (left_in source.old))) }
+{
+    source.begin_object()?;
+    source.key("goal")?;
+    let goal = read_goal(source, rules)?;
+    source.key("verdict")?;
+    let outcome = read_outcome(source)?;
+    source.key("nodes")?;
+    let nodes = read_nodes(alloc, source, rules)?;
+    source.end_object()?;
+    Ok(Claim {
+        goal,
+        outcome,
+        nodes,
+    })
+}
+
+fn read_nodes(
+    alloc: Global,
+    source: &mut Source<'_>,
+    rules: &Rules,
+) -> Result<Vec<Node<Goal, Outcome>>, Stop>
+    ensures spelled { IfOk result (λ nodes. left_in source.old
+        ≡ array_tokens (node_tokens (names_of rules.now)) (map plain_node nodes.items) (left_in source.new)) }
+    ensures named { IfOk result
+        (λ nodes. All (IsNode (names_of rules.now)) (map plain_node nodes.items)) }
+    ensures refused { IfErr result (StopsUnless (Spells (All (IsNode (names_of rules.now)))
+        (array_tokens (node_tokens (names_of rules.now))) (left_in source.old))) }
+{
+    let mut nodes = Vec::new(alloc);
+    source.begin_array()?;
+    for _ in 0..u64::MAX {
+        if source.is_end_of_array() {
+            return Ok(nodes);
+        }
+        nodes.push(read_node(alloc, source, rules)?)?;
+    }
+    Err(Stop::Memory)
+}
+
+fn read_node(
+    alloc: Global,
+    source: &mut Source<'_>,
+    rules: &Rules,
+) -> Result<Node<Goal, Outcome>, Stop>
+    ensures spelled { IfOk result (λ node. left_in source.old
+        ≡ node_tokens (names_of rules.now) (plain_node node) (left_in source.new)) }
+    ensures named { IfOk result (λ node. IsNode (names_of rules.now) (plain_node node)) }
+    ensures refused { IfErr result (StopsUnless
+        (Spells (IsNode (names_of rules.now)) (node_tokens (names_of rules.now)) (left_in source.old))) }
+{
+    source.begin_object()?;
+    source.key("goal")?;
+    let input = read_goal(source, rules)?;
+    source.key("replies")?;
+    let replies = read_replies(alloc, source)?;
+    source.key("result")?;
+    let result = read_outcome(source)?;
+    source.key("edges")?;
+    let edges = read_edges(alloc, source, rules)?;
+    source.end_object()?;
+    Ok(Node {
+        input,
+        replies,
+        edges,
+        result,
+    })
+}
+
+fn read_replies(alloc: Global, source: &mut Source<'_>) -> Result<Vec<Reply<Outcome>>, Stop>
+    ensures spelled { IfOk result (λ replies. left_in source.old
+        ≡ array_tokens reply_tokens replies.items (left_in source.new)) }
+    ensures refused { IfErr result (StopsUnless
+        (Spells (λ _. ⊤) (array_tokens reply_tokens) (left_in source.old))) }
+{
+    let mut replies = Vec::new(alloc);
+    source.begin_array()?;
+    for _ in 0..u64::MAX {
+        if source.is_end_of_array() {
+            return Ok(replies);
+        }
+        replies.push(read_reply(source)?)?;
+    }
+    Err(Stop::Memory)
+}
+
+fn read_reply(source: &mut Source<'_>) -> Result<Reply<Outcome>, Stop>
+    ensures spelled { IfOk result
+        (λ reply. left_in source.old ≡ reply_tokens reply (left_in source.new)) }
+    ensures refused { IfErr result
+        (StopsUnless (Spells (λ _. ⊤) reply_tokens (left_in source.old))) }
+{
+    let word = source.string()?;
+    reply_of(word).ok_or(source.fault())
+}
+
+fn read_edges(
+    alloc: Global,
+    source: &mut Source<'_>,
+    rules: &Rules,
+) -> Result<Vec<Edge<Goal>>, Stop>
+    ensures spelled { IfOk result (λ edges. left_in source.old
+        ≡ array_tokens (edge_tokens (names_of rules.now)) edges.items (left_in source.new)) }
+    ensures named { IfOk result (λ edges. All (IsEdge (names_of rules.now)) edges.items) }
+    ensures refused { IfErr result (StopsUnless (Spells (All (IsEdge (names_of rules.now)))
+        (array_tokens (edge_tokens (names_of rules.now))) (left_in source.old))) }
+{
+    let mut edges = Vec::new(alloc);
+    source.begin_array()?;
+    for _ in 0..u64::MAX {
+        if source.is_end_of_array() {
+            return Ok(edges);
+        }
+        edges.push(read_edge(source, rules)?)?;
+    }
+    Err(Stop::Memory)
+}
+
+fn read_edge(source: &mut Source<'_>, rules: &Rules) -> Result<Edge<Goal>, Stop>
+    ensures spelled { IfOk result (λ edge. left_in source.old
+        ≡ edge_tokens (names_of rules.now) edge (left_in source.new)) }
+    ensures named { IfOk result (IsEdge (names_of rules.now)) }
+    ensures refused { IfErr result (StopsUnless
+        (Spells (IsEdge (names_of rules.now)) (edge_tokens (names_of rules.now)) (left_in source.old))) }
+{
+    source.begin_object()?;
+    source.key("kind")?;
+    let kind = read_kind(source)?;
+    source.key("goal")?;
+    let input = read_goal(source, rules)?;
+    source.key("target")?;
+    let target = source.number()?;
+    source.end_object()?;
+    Ok(Edge {
+        kind,
+        input,
+        target,
+    })
+}
+
+fn read_kind(source: &mut Source<'_>) -> Result<PathKind, Stop>
+    ensures spelled { IfOk result
+        (λ kind. left_in source.old ≡ kind_tokens kind (left_in source.new)) }
+    ensures refused { IfErr result
+        (StopsUnless (Spells (λ _. ⊤) kind_tokens (left_in source.old))) }
+{
+    let letter = source.string()?;
+    kind_of(letter).ok_or(source.fault())
+}
+
+// A goal by its name, which the rules have to mention.
+fn read_goal(source: &mut Source<'_>, rules: &Rules) -> Result<Goal, Stop>
+    ensures spelled { IfOk result (λ goal. left_in source.old
+        ≡ goal_tokens (names_of rules.now) goal (left_in source.new)) }
+    ensures named { IfOk result (IsNamed (names_of rules.now)) }
+    ensures refused { IfErr result (StopsUnless
+        (Spells (IsNamed (names_of rules.now)) (goal_tokens (names_of rules.now)) (left_in source.old))) }
+{
+    let name = source.string()?;
+    rules.goal(name.as_bytes()).ok_or(source.fault())
+}
+
+fn read_outcome(source: &mut Source<'_>) -> Result<Outcome, Stop>
+    ensures spelled { IfOk result
+        (λ outcome. left_in source.old ≡ outcome_tokens outcome (left_in source.new)) }
+    ensures refused { IfErr result
+        (StopsUnless (Spells (λ _. ⊤) outcome_tokens (left_in source.old))) }
+{
+    let word = source.string()?;
+    outcome_of(word).ok_or(source.fault())
+}
+
+fn outcome_of(word: &str) -> Option<Outcome>
+    ensures some { IfSome result (λ outcome. word.now ≡ word_of outcome) }
+    ensures none { IfNone result ((outcome : SpecOutcome) → word.now ≢ word_of outcome) }
+{
+    match word {
+        "yes" => Some(Outcome::Yes),
+        "no" => Some(Outcome::No),
+        "maybe" => Some(Outcome::Maybe),
+        "overflow" => Some(Outcome::Overflow),
+        _ => None,
+    }
+}
+
+fn reply_of(word: &str) -> Option<Reply<Outcome>>
+    ensures some { IfSome result (λ reply. word.now ≡ reply_word reply) }
+    ensures none { IfNone result ((reply : SpecReply SpecOutcome) → word.now ≢ reply_word reply) }
+{
+    match word {
+        "begin" => Some(Reply::Begin),
+        "noted" => Some(Reply::Noted),
+        _ => outcome_of(word).map(Reply::Answer),
+    }
+}

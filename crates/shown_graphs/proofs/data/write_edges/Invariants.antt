@@ -1,9 +1,0 @@
-use Rattle.std.proofs.Common.{◌∷◌, take}
-use Rattle.json.specs.Token.{begin_array}
-use Rattle.shown_graphs.proofs.data.write_edges.Given as goal
-use Rattle.shown_graphs.specs.Below.{names_of}
-use Rattle.shown_graphs.specs.Data.{edge_tokens, HaveTexts, list_tokens, PutsTokens}
-
--- so many are written
-abbrev pub invariant-loop-edge : goal.invariant-loop-edge
-invariant-loop-edge l = HaveTexts (names_of l.rules) → PutsTokens l.fn.writer l.writer (λ rest. begin_array ∷ list_tokens (edge_tokens (names_of l.rules)) (take l.edge-index l.edges) rest)

@@ -1,8 +1,0 @@
-use Rattle.std.proofs.Common.{◌∷◌, take}
-use Rattle.json.specs.Token.{begin_array}
-use Rattle.shown_graphs.proofs.data.write_replies.Given as goal
-use Rattle.shown_graphs.specs.Data.{list_tokens, PutsTokens, reply_tokens}
-
--- so many are written
-abbrev pub invariant-loop-reply : goal.invariant-loop-reply
-invariant-loop-reply l = PutsTokens l.fn.writer l.writer (λ rest. begin_array ∷ list_tokens reply_tokens (take l.reply-index l.replies) rest)

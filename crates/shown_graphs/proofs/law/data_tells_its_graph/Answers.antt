@@ -1,5 +1,0 @@
-use Rattle.shown_graphs.proofs.Readback.{claim_told}
-use Rattle.shown_graphs.proofs.law.data_tells_its_graph.Goals as goal
-
-pub returns : goal.returns
-returns c = λ names written read after rest own p q h. claim_told names own written read after rest p q h

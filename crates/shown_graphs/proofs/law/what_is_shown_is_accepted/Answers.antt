@@ -1,6 +1,0 @@
-use Rattle.std.proofs.Common.{refl}
-use Rattle.shown_graphs.proofs.RoundTrip.{shown_is_read_back}
-use Rattle.shown_graphs.proofs.law.what_is_shown_is_accepted.Goals as goal
-
-pub returns : goal.returns
-returns c = shown_is_read_back _ _ (λ table. refl)
