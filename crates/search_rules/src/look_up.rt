@@ -49,7 +49,7 @@ impl<'a, D: Delegate> NestedTest<D::Cx> for OverStack<'a, D> {
         if nested_goals.is_empty() {
             return true;
         }
-        !self.is_above(nested_goals)
+        !has_goal_of(self.stack, nested_goals)
             && nested_goals
                 .iter()
                 .all(|(goal, paths)| !self.meets_entry(goal, paths))
@@ -57,24 +57,6 @@ impl<'a, D: Delegate> NestedTest<D::Cx> for OverStack<'a, D> {
 }
 
 impl<'a, D: Delegate> OverStack<'a, D> {
-    /// Whether one of the goals is on the stack. The shorter of the two is walked. But the goals of a stored result stand
-    /// in a list, in which one is looked for as long as they are many: so only the goals of a short stack are looked for
-    /// there, and on a longer one each nested goal is looked up.
-    fn is_above(&self, nested_goals: &NestedGoals<D::Cx>) -> bool
-        ensures { result ≡ list_any (λ e. is_some (paths_at D.Cx.Input.eq nested_goals.now e.input))
-            self.now.stack }
-    {
-        let most = nested_goals.len().min(SHORT_STACK);
-        if self.stack.len() > most {
-            return nested_goals
-                .iter()
-                .any(|(goal, _)| self.stack.find(goal).is_some());
-        }
-        self.stack
-            .iter()
-            .any(|entry| nested_goals.contains(entry.input()))
-    }
-
     /// Whether the goal, asked at the end of one of these paths, could be answered by an entry.
     fn meets_entry(&self, goal: <D::Cx as Cx>::Input, paths: PathsToNested) -> bool
         ensures { result ≡ meets_entry D.Cx.Input.eq self.now goal paths }
@@ -106,6 +88,24 @@ impl<'a, D: Delegate> OverStack<'a, D> {
             .extend_with(from_head)
             .contains(PathsToNested::from(entry.path_from_head))
     }
+}
+
+/// Whether one of the goals is on the stack. The shorter of the two is walked. But the goals of a stored result stand
+/// in a list, in which one is looked for as long as they are many: so only the goals of a short stack are looked for
+/// there, and on a longer one each nested goal is looked up.
+fn has_goal_of<X: Cx>(stack: &Stack<X>, nested_goals: &NestedGoals<X>) -> bool
+    ensures { result ≡ list_any (λ e. is_some (paths_at X.Input.eq nested_goals.now e.input))
+        stack.now }
+{
+    let most = nested_goals.len().min(SHORT_STACK);
+    if stack.len() > most {
+        return nested_goals
+            .iter()
+            .any(|(goal, _)| stack.find(goal).is_some());
+    }
+    stack
+        .iter()
+        .any(|entry| nested_goals.contains(entry.input()))
 }
 
 /// The entry that answers the goal, asked over the step by the last goal on the stack, if the delegate lets
