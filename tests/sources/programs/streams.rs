@@ -1,6 +1,6 @@
 //! Runs of `goals` between streams that fail: how they end, and what stands on the streams then.
 
-use crate::failing::{End, Input, Output};
+use crate::programs::failing::{End, Input, Output};
 use std::alloc::Global;
 use std::io::{Read, Write};
 use std::process::Abort;

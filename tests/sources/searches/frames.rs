@@ -1,7 +1,7 @@
 //! Tests of frames that are refused memory, by each call of a frame in turn.
 
-use crate::handed_out::{Nodes, graph_for};
-use crate::stored::tell_stored;
+use crate::searches::handed_out::{Nodes, graph_for};
+use crate::searches::stored::tell_stored;
 use asked_tables::calls::accepts;
 use check_tests::asking::ask;
 use delegate_parts::{Builder, Outcome};

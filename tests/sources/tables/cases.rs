@@ -1,8 +1,8 @@
 //! Runs over tables of rules, in the format of `vectors/README.md` with its options and sections.
 
-use crate::drawing::{start_line, write_graph};
-use crate::idle::write_idle;
-use crate::trees::{write_record, write_tree};
+use crate::tables::drawing::{start_line, write_graph};
+use crate::tables::idle::write_idle;
+use crate::tables::trees::{write_record, write_tree};
 use asked_tables::asked::Answered;
 use asked_tables::calls::new_cache;
 use asked_tables::lists::{answers_to, lists_have};

@@ -4,7 +4,7 @@
 //! coinductive steps without end. So take all goals, and strike out those that are not proved by finitely many inductive
 //! steps down to questions that lead coinductively to a goal which is left, until nothing changes.
 
-use crate::random_tables::{Candidate, Candidates, Question};
+use crate::tables::random_tables::{Candidate, Candidates, Question};
 use std::alloc::Global;
 use std::test::Fail;
 

@@ -4,7 +4,7 @@
 //! A run has the number of switches, with the options of the search. What its first goal comes to, and by how many frames, is
 //! what rustc's own code comes to. The answers to all goals over one cache have to be shown by their graphs.
 
-use crate::cases::{Case, lines_of};
+use crate::tables::cases::{Case, lines_of};
 use asked_tables::early::EarlyDelegate;
 use rule_tables::Rules;
 use rule_tables::delegate::Table;

@@ -1,6 +1,6 @@
 //! Random changes of a graph's nodes.
 
-use crate::handed_out::copy_of;
+use crate::searches::handed_out::copy_of;
 use chance::Chance;
 use rule_tables::{Goal, Outcome};
 use search_parts::context::{Edge, Node, Reply};

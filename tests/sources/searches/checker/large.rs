@@ -1,7 +1,7 @@
 //! Large graphs made by a rule. That time is linear in their size, and that they take no native stack, `tests/explain` shows of
 //! the same graphs a hundred times as large.
 
-use crate::handed_out::{Nodes, is_accepted};
+use crate::searches::handed_out::{Nodes, is_accepted};
 use rule_tables::{Goal, Outcome, Rules};
 use search_parts::context::{Edge, Node, Reply};
 use search_parts::path::PathKind;

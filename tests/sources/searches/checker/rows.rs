@@ -1,6 +1,6 @@
 //! Graphs made by hand, and what the checker says of them.
 
-use crate::handed_out::{Nodes, is_accepted};
+use crate::searches::handed_out::{Nodes, is_accepted};
 use rule_tables::Outcome::{No, Yes};
 use rule_tables::{Goal, Outcome, Rules};
 use search_parts::context::Reply::{Answer, Begin, Noted};

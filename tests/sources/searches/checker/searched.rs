@@ -1,7 +1,7 @@
 //! Graphs that long searches hand out: what they rest on, and that the checker accepts them. `tests/limits` has a chain of
 //! 100,000 goals, whose graph is checked, too.
 
-use crate::handed_out::{HandedOut, Nodes, graph_for, is_accepted};
+use crate::searches::handed_out::{HandedOut, Nodes, graph_for, is_accepted};
 use rule_tables::{Goal, Outcome, Rules};
 use search_parts::path::PathKind;
 use std::alloc::Global;

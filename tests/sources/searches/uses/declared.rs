@@ -1,7 +1,7 @@
 //! Types that are declared one by one, among them such as no text has.
 
-use crate::uses::agreed::{Asked, answered_otherwise};
-use crate::uses::sides::{Side, declare_all};
+use crate::searches::uses::agreed::{Asked, answered_otherwise};
+use crate::searches::uses::sides::{Side, declare_all};
 use std::alloc::Global;
 use std::process::Abort;
 use std::test::Fail;

@@ -1,6 +1,6 @@
 //! Texts drawn at random.
 
-use crate::uses::agreed::agreed;
+use crate::searches::uses::agreed::agreed;
 use chance::Chance;
 use std::alloc::Global;
 use std::io::Write;

@@ -1,6 +1,6 @@
 //! Subtypes without a search: all pairs are taken, and those that are not supported are struck out until nothing changes.
 
-use crate::uses::agreed::Asked;
+use crate::searches::uses::agreed::Asked;
 use std::alloc::Global;
 use std::test::Fail;
 use structural_types::{Field, Form, Types};

@@ -1,6 +1,6 @@
 //! All texts of two types with small right sides.
 
-use crate::uses::agreed::agreed;
+use crate::searches::uses::agreed::agreed;
 use std::alloc::Global;
 use std::io::Write;
 use std::process::Abort;

@@ -1,7 +1,7 @@
 //! The search beside the plain definition, on all tables of two small types and on random tables.
 
-use crate::uses::agreed::{agreed, answered_otherwise};
-use crate::uses::sides::{Side, declare_all};
+use crate::searches::uses::agreed::{agreed, answered_otherwise};
+use crate::searches::uses::sides::{Side, declare_all};
 use chance::Chance;
 use std::alloc::Global;
 use std::process::Abort;

@@ -1,7 +1,7 @@
 //! Cases of the textbook, worked out by hand.
 
-use crate::uses::agreed::agreed;
-use crate::uses::plain::Pairs;
+use crate::searches::uses::agreed::agreed;
+use crate::searches::uses::plain::Pairs;
 use std::alloc::Global;
 use std::process::Abort;
 use std::test::Fail;

@@ -1,7 +1,7 @@
 //! What is done with a cache over a table of rules, where stored results of some goals are validated, and what comes of it.
 
-use crate::stored::tell_stored;
-use crate::validation::put::put_neither;
+use crate::searches::stored::tell_stored;
+use crate::searches::validation::put::put_neither;
 use asked_tables::calls::work_out;
 use check_tests::asking::ask;
 use check_tests::journal::{Event, Journal};

@@ -1,7 +1,7 @@
 //! Stored results that are validated: their goals are worked out once more, each in a scope, and come to the stored
 //! result or to a fault.
 
-use crate::validation::acts::{Act, Way, tell};
+use crate::searches::validation::acts::{Act, Way, tell};
 use delegate_parts::Outcome;
 use std::test::Fail;
 

@@ -1,6 +1,6 @@
 //! A goal whose stored result is validated, and which comes to a request out of order meanwhile.
 
-use crate::validation::acts::{count, put};
+use crate::searches::validation::acts::{count, put};
 use check_tests::asking::ask;
 use check_tests::journal::Event;
 use check_tests::validating::{Validating, Watched};

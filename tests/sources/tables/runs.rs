@@ -1,3 +1,7 @@
+//! The runs of the tests in `tables`, which says how they are written.
+
+/// All runs. After each comes an empty line.
+pub const RUNS: &str = r"
 case cycles_are_run_until_they_are_stable.1 limit 8 provisional both
 rule A = i:A
 ask 4 A
@@ -2907,3 +2911,5 @@ decided
 drawn five_goals_are_decided_early_without_provisional_entries 50 5 both_kinds early
 expect 0
 decided
+
+";

@@ -1,5 +1,4 @@
-//! Tests of the search. The program reads runs, and says of how many the search answers what stands in them. `tests/unproved`
-//! runs it.
+//! Tests of the search, by the runs of the text `runs`: what the search answers is compared with what stands in them.
 //!
 //! A run ends with an empty line. It begins with a line that has its sort, its name and its options, and its answers follow a
 //! line `expect 0`. The sorts are:
@@ -13,7 +12,6 @@
 //! | `pairs` | tables of two goals that ask two questions each, as many as are wanted of all of them (`pairs`) |
 //! | `graph` | a graph made by hand, for the plain check of those (`flaws`) |
 //! | `drawn` | tables drawn at random, beside a solver that works out from the definition alone which goals have a proof graph (`decided`) |
-#![tactic(auto)]
 
 mod cases;
 mod decided;
@@ -23,38 +21,45 @@ mod idle;
 mod pairs;
 mod plain_graph;
 mod random_tables;
+mod runs;
 mod scripts;
 mod solved;
 mod switches;
 mod trees;
 
 use asked_tables::runs::Run;
+use runs::RUNS;
 use std::alloc::Global;
-use std::io;
-use std::io::Write;
+use std::process::Abort;
 use std::test::Fail;
 
-fn main(rt: HostRuntime) -> Result<(), Fail> {
-    let text = io::read_to_string(rt.alloc(), rt.stdin())?;
+/// Each run comes to what stands in it. What any other comes to is printed.
+#[test]
+fn runs_are_answered_as_they_say(rt: HostRuntime) -> Result<(), Fail> {
     let mut passed = 0u32;
     let mut failed = 0u32;
-    for it in text.trim_end().split("\n\n") {
-        let run = Run::read(it)?;
-        let told = tell(rt.alloc(), run)?;
-        if told.as_slice() == run.wanted.as_bytes() {
+    for it in RUNS.trim().split("\n\n") {
+        if is_answered(&rt, it)? {
             passed = passed.saturating_add(1);
         } else {
             failed = failed.saturating_add(1);
-            println!(rt; "failed: {it}\nand it came to")?;
-            rt.stdout().write_all(told.as_slice())?;
-            println!(rt; "\n")?;
         }
     }
-    println!(rt; "{passed} passed, {failed} failed")?;
-    if failed > 0 || passed == 0 {
-        return Err("a run is answered otherwise")?;
-    }
+    println!(rt; "{passed} runs passed, {failed} failed")?;
+    assert!(rt; failed == 0 && passed > 0, "a run is answered otherwise");
     Ok(())
+}
+
+/// Whether the run comes to what stands in it.
+fn is_answered(rt: &(impl AllocGlobal + Print), text: &str) -> Result<bool, Fail> {
+    let run = Run::read(text)?;
+    let told = tell(rt.alloc(), run)?;
+    if told.as_slice() == run.wanted.as_bytes() {
+        return Ok(true);
+    }
+    let told = std::str::from_utf8(told.as_slice()).unwrap_or("no text");
+    println!(rt; "failed: {text}\nand it came to\n{told}\n")?;
+    Ok(false)
 }
 
 /// What the run comes to.
