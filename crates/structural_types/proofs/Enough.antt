@@ -13,7 +13,8 @@ use Rattle.structural_types.specs.Below.{Answer, AreDefinite, AreSettled, Cache,
 use Rattle.type_order.specs.Pairs.{askable}
 use Rattle.structural_types.specs.Deciding.{EndsDecided, KeepsDeciding}
 use Rattle.type_order.specs.Rule.{needs_of, pair, questions_of}
-use Rattle.type_order.specs.Subtypes.{Form, forms_of}
+use Rattle.type_order.specs.Subtypes.{forms_of}
+use Rattle.type_order.specs.declared.types.Form.{Form}
 use Rattle.type_order.specs.declared.delegate.Pair.{Pair}
 use Rattle.type_order.specs.declared.types.Types.{Types}
 use Rattle.type_order.proofs.Decided.{pairs_are_decisive}

@@ -3,7 +3,8 @@ use Rattle.std.specs.Prelude.{List}
 use Rattle.type_order.specs.declared.types.Types.{Types}
 use Rattle.type_order.specs.declared.delegate.LendsTypes.{Ghosts as LendsTypesOf}
 use Rattle.structural_types.specs.declared.subtyping.Subtyping.{Subtyping}
-use Rattle.type_order.specs.Subtypes.{Form, forms_of}
+use Rattle.type_order.specs.Subtypes.{forms_of}
+use Rattle.type_order.specs.declared.types.Form.{Form}
 
 -- the types that it is asked about; `types_of` gives those that a lender lends
 abbrev pub declared_in : {T : Type 0} {G : LendsTypesOf T} → (T → Types) → Subtyping T G → List Form

@@ -3,7 +3,7 @@ use Rattle.std.specs.Prelude.{Bool, Contains, List, Result, IfOk, IfErr}
 use Rattle.structural_types.specs.Below.{Answer, AreDefinite, AreSettled, Cache, CxOf, DelegateOf, Fault, HaveNoOverflowOf, IsDefinite, IsMemoryOrOrder, Outcome, outcome_verdicts, script_of, StoredReachNested, StoredSuit, verdicts}
 use Rattle.type_order.specs.Rule.{needs_of, questions_of}
 use Rattle.type_order.specs.Pairs.{askable}
-use Rattle.type_order.specs.Subtypes.{Form}
+use Rattle.type_order.specs.declared.types.Form.{Form}
 use Rattle.type_order.specs.declared.delegate.Pair.{Pair}
 
 -- Each stored answer is yes or no, none met overflow, and the answers of all pairs that may be asked are settled, with nested pairs
