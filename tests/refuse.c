@@ -6,6 +6,12 @@
  *   REFUSE_FROM=N   the Nth request and each one after it
  *   REFUSE_ODDS=N   each request with a chance of one in N
  *   REFUSE_COUNT=F  nothing; the file F gets the number of requests when the program ends
+ *   REFUSE_EACH=N N ..   the Nth request, for each of these numbers in a run of its own
+ *
+ * The runs of the last one are processes that go on from where the program would start, one after the other: so the program is
+ * loaded once for all of them. Each reads standard input from its beginning. How a run ends is written to standard
+ * output if the run before ended otherwise, or there was none: the byte 0x1e, the number, the status, a newline, and all
+ * that the run wrote. The status is 0 once all runs were made, however they ended.
  *
  * It needs no header, so that the compiler of the kit can compile it.
  */
@@ -16,8 +22,18 @@ extern void *__libc_calloc(size count, size bytes);
 extern void *__libc_realloc(void *block, size bytes);
 extern char *getenv(const char *name);
 extern size strtoul(const char *text, char **end, int base);
+extern int memcmp(const void *left, const void *right, size bytes);
+extern void *memcpy(void *to, const void *from, size bytes);
 extern int creat(const char *path, unsigned mode);
 extern int dprintf(int file, const char *format, ...);
+extern int memfd_create(const char *name, unsigned flags);
+extern int ftruncate(int file, long bytes);
+extern long lseek(int file, long place, int from);
+extern long pread(int file, void *to, size bytes, long place);
+extern int dup2(int file, int as);
+extern int fork(void);
+extern int waitpid(int process, int *status, int options);
+extern void _exit(int status);
 
 static size requests, at, from, odds, chance = 1;
 static int counts;
@@ -27,11 +43,56 @@ static size number_in(const char *name) {
     return text ? strtoul(text, 0, 10) : 0;
 }
 
+/* How a run ended. */
+static struct ending {
+    int status;
+    long length;
+    char text[1 << 16];
+} now, before = {-1};
+
+/* Writes how the run ended, if the one before did not end so. Returns whether what it wrote could be read. */
+static int tell(int written, int status) {
+    now.status = status & 127 ? 128 + (status & 127) : status >> 8 & 255;
+    now.length = pread(written, now.text, sizeof now.text, 0);
+    if (now.length < 0 || now.length == sizeof now.text)
+        return 0;
+    if (now.status != before.status || now.length != before.length || memcmp(now.text, before.text, now.length)) {
+        dprintf(1, "\036%lu %d\n%.*s", at, now.status, (int)now.length, now.text);
+        memcpy(&before, &now, sizeof now);
+    }
+    return 1;
+}
+
+/* Returns once in a process for each of the numbers, which `at` is then. */
+static void begin_each(const char *numbers) {
+    int status, written = memfd_create("written", 0);
+    char *rest;
+    while ((at = strtoul(numbers, &rest, 10))) {
+        numbers = rest;
+        lseek(0, 0, 0);
+        lseek(written, 0, 0);
+        if (ftruncate(written, 0))
+            _exit(1);
+        int process = fork();
+        if (process == 0) {
+            dup2(written, 1);
+            dup2(written, 2);
+            return;
+        }
+        if (waitpid(process, &status, 0) != process || !tell(written, status))
+            _exit(1);
+    }
+    _exit(0);
+}
+
 /* What is requested before the program starts is neither counted nor refused. */
 __attribute__((constructor)) static void begin(void) {
+    const char *numbers = getenv("REFUSE_EACH");
     at = number_in("REFUSE_AT");
     from = number_in("REFUSE_FROM");
     odds = number_in("REFUSE_ODDS");
+    if (numbers)
+        begin_each(numbers);
     requests = 0;
     counts = 1;
 }
