@@ -7,24 +7,19 @@
 mod alike;
 mod asked;
 mod failed;
-mod soak;
 mod stored;
 mod told;
 
 use alike::write_alike;
 use asked::answers_of;
-use chance::Chance;
 use delegate_parts::Outcome;
 use failed::Failed;
 use rule_tables::delegate::Table;
 use rule_tables::{Rules, TableDelegate};
-use soak::{Tally, soak_table};
 use std::alloc::{AllocError, Global};
 use std::io;
 use std::io::{BufWriter, Read, Write};
-use std::rt::Clock;
 use std::test::Fail;
-use std::time::Instant;
 use told::check_text;
 
 /// The byte between two inputs.
@@ -45,9 +40,6 @@ fn main(rt: HostRuntime) -> Result<(), Fail> {
 /// Answers one of the inputs.
 fn answer_input(rt: &HostRuntime, run: &[u8]) -> Result<(), Fail> {
     let (head, text) = head_of(run);
-    if let Some(words) = head.strip_prefix(b"soak ") {
-        return soak_for(rt, words);
-    }
     if let Some(words) = head.strip_prefix(b"alike ") {
         return print_alike(rt, number_in(words)?);
     }
@@ -90,52 +82,6 @@ fn tell_failed(rt: &impl Print, failed: Failed) -> Result<(), Fail> {
         Failed::Wrong(otherwise) => println!(rt; "wrong: {otherwise}")?,
         Failed::Memory => println!(rt; "wrong: refused twice")?,
     }
-    Ok(())
-}
-
-/// Asks random tables for as many seconds as the first number says, with the second one as the seed, and tells every second
-/// what came of it. The first thing that is wrong ends it.
-fn soak_for(rt: &(impl AllocGlobal + Clock + Print), words: &[u8]) -> Result<(), Fail> {
-    let end = words
-        .iter()
-        .position(|byte| *byte == b' ')
-        .ok_or("no seed")?;
-    let (seconds, seed) = words.split_at_checked(end).ok_or("no seed")?;
-    soak_from(rt, number_in(seconds)?, Chance::new(number_in(seed)?))
-}
-
-fn soak_from(
-    rt: &(impl AllocGlobal + Clock + Print),
-    seconds: u64,
-    mut chance: Chance,
-) -> Result<(), Fail> {
-    let mut tally = Tally::default();
-    let start = Instant::now(rt)?;
-    let mut told = 0u64;
-    for table in 1..u64::MAX {
-        soak_table(rt.alloc(), &mut chance, &mut tally)?;
-        let now = start.elapsed(rt)?.as_secs();
-        if now > told {
-            told = now;
-            tell_tally(rt, now, table, tally)?;
-        }
-        if now >= seconds {
-            break;
-        }
-    }
-    Ok(())
-}
-
-fn tell_tally(rt: &impl Print, now: u64, table: u64, tally: Tally) -> Result<(), Fail> {
-    let Tally {
-        questions,
-        checked,
-        refused,
-        frames,
-    } = tally;
-    println!(rt;
-        "{now} s: {table} tables, {questions} questions, {frames} frames; {checked} answers checked, {refused} refused"
-    )?;
     Ok(())
 }
 
