@@ -4,11 +4,7 @@
 
 ghost use Rattle.std.specs.Prelude.{◌≤◌};
 
-mod arguments;
-mod progress;
-
-use arguments::{Order, Task, order_of, status_of_error};
-use progress::OnTerminal;
+use explain_terminal::{OnTerminal, Order, Task, order_of, status_of_error};
 use shown_graphs::{check, explain};
 use std::fs::File;
 use std::io;

@@ -4,12 +4,12 @@ ghost use Rattle.clap.specs.Words.{kind_of};
 
 use clap::error::ErrorKind;
 use clap::{Arg, ArgAction, ArgMatches, Command, Error, value_parser};
-use shown_graphs::Form;
+use graph_pages::Form;
 use std::alloc::Global;
 
 /// What the program is to do.
 #[derive(Clone, Copy)]
-pub(crate) enum Task {
+pub enum Task {
     /// Show answers in this form.
     Explain(Form),
     /// Check data.
@@ -18,16 +18,16 @@ pub(crate) enum Task {
 
 /// A task, and the path of the file that is read for it. Where there is none, standard input is read.
 #[derive(Clone, Copy)]
-pub(crate) struct Order<'a> {
-    pub(crate) task: Task,
-    pub(crate) file: Option<&'a str>,
+pub struct Order<'a> {
+    pub task: Task,
+    pub file: Option<&'a str>,
 }
 
 /// How many levels are shown where no number is given.
 const DEPTH: &str = "100";
 
 /// What the words ask for, the first of which is the program's name. An error has the usage.
-pub(crate) fn order_of<'a>(alloc: Global, words: &'a [String]) -> Result<Order<'a>, Error> {
+pub fn order_of<'a>(alloc: Global, words: &'a [String]) -> Result<Order<'a>, Error> {
     let matches = command(alloc)?.try_get_matches_from(words)?;
     Ok(Order {
         task: task_of(&matches),
@@ -37,7 +37,7 @@ pub(crate) fn order_of<'a>(alloc: Global, words: &'a [String]) -> Result<Order<'
 
 /// The exit status where the words name no task: 0 where help was asked for, 4 where memory was out, and 2 where the words are
 /// wrong.
-pub(crate) fn status_of_error(error: &Error) -> u8
+pub fn status_of_error(error: &Error) -> u8
     ensures shown { (kind_of error.now ≡ ErrorKind.DisplayHelp)
         ⊎ (kind_of error.now ≡ ErrorKind.DisplayVersion) → result ≡ 0 }
     ensures memory { kind_of error.now ≡ ErrorKind.OutOfMemory → result ≡ 4 }

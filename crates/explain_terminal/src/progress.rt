@@ -1,13 +1,13 @@
 //! Progress on standard error.
 
-use shown_graphs::Progress;
+use graph_pages::Progress;
 use std::io::{IsTerminal, Write};
 use std::time::Instant;
 
 /// Tells progress on standard error, on a line for each second that has passed. Where standard error is no terminal, nothing
 /// is told.
 #[derive(Drop)]
-pub(crate) struct OnTerminal<'a> {
+pub struct OnTerminal<'a> {
     rt: &'a HostRuntime,
     /// Where the time begins; none where nothing is to be told.
     start: Option<Instant>,
@@ -16,7 +16,8 @@ pub(crate) struct OnTerminal<'a> {
 }
 
 impl<'a> OnTerminal<'a> {
-    pub(crate) fn new(rt: &'a HostRuntime) -> OnTerminal<'a> {
+    /// Progress whose time begins now.
+    pub fn new(rt: &'a HostRuntime) -> OnTerminal<'a> {
         let start = if rt.stderr().is_terminal() {
             Instant::now(rt).ok()
         } else {
