@@ -83,7 +83,9 @@ fn type_of<'a>(alloc: Global, mut words: Words<'a>) -> Result<Line<'a>, LineFaul
     ensures malformed { result ≡ Err LineFault.Malformed →
         SayNothing (codes "type" ∷ words_left words.entry) }
 {
-    let name = words.next().ok_or(LineFault::Malformed)?;
+    let Some(name) = words.next() else {
+        return Err(LineFault::Malformed);
+    };
     let Some(b"=") = words.next() else {
         return Err(LineFault::Malformed);
     };
@@ -101,11 +103,15 @@ fn ask_of<'a>(mut words: Words<'a>) -> Result<Line<'a>, LineFault>
     ensures malformed { result ≡ Err LineFault.Malformed →
         SayNothing (codes "ask" ∷ words_left words.entry) }
 {
-    let left = words.next().ok_or(LineFault::Malformed)?;
+    let Some(left) = words.next() else {
+        return Err(LineFault::Malformed);
+    };
     let Some(b"<") = words.next() else {
         return Err(LineFault::Malformed);
     };
-    let right = words.next().ok_or(LineFault::Malformed)?;
+    let Some(right) = words.next() else {
+        return Err(LineFault::Malformed);
+    };
     if is_name(left) && is_name(right) && words.next().is_none() {
         Ok(Line::Ask { left, right })
     } else {

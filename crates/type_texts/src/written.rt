@@ -94,7 +94,9 @@ fn function_of<'a>(argument: &'a [u8], mut words: Words<'a>) -> Result<Written<'
     ensures malformed { result ≡ Err LineFault.Malformed →
         SpellNothing (argument.now ∷ codes "->" ∷ words_left words.entry) }
 {
-    let result = words.next().ok_or(LineFault::Malformed)?;
+    let Some(result) = words.next() else {
+        return Err(LineFault::Malformed);
+    };
     if is_name(argument) && is_name(result) && words.next().is_none() {
         Ok(Written::Function(argument, result))
     } else {

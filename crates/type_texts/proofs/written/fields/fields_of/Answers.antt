@@ -1,5 +1,6 @@
 use Rattle.std.proofs.Common.{◌≡◌, ◌∷◌, [], true, ap, map, sym, subst, ◌∙◌}
 use Rattle.std.specs.Option.{option_copied}
+use Rattle.std.proofs.lemmas.Bool.{false≢true}
 use Rattle.std.proofs.lemmas.List.{map-append}
 use Rattle.type_texts.specs.Words.{named}
 use Rattle.type_texts.proofs.Refusing.{closed_already, closing_lacks, no_field_due, no_type_due, not_again}
@@ -38,7 +39,7 @@ returns-in_err-field_of-in-Some-due-clause-malformed c =
 pub returns-in_err-field_name-in-None-2-clause-malformed : goal.returns-in_err-field_name-in-None-2-clause-malformed
 returns-in_err-field_name-in-None-2-clause-malformed c =
     λ _. no_field_due _ _ _ _ c.in-Some.word.now (rw (c.in-None-2.is, c.if-is_closed.false) at c.loop-word.invariant) c.in-Some.ensures.steps
-    (λ f. let t : c.is_brace.result ≡ true = c.is_brace.ensures.1 f in let n = c.if-is_brace.false in absurd cc)
+    (λ f. false≢true (sym c.if-is_brace.false ∙ c.is_brace.ensures.1 f))
     (λ name later e is distinct. not_again c.loop-word.fields.items name later (rw c.as_slice.ensures.value at c.in_err-field_name-in-None-2.ensures.malformed name e is) distinct)
 
 pub returns-clause-malformed : goal.returns-clause-malformed
