@@ -1,7 +1,6 @@
 //! Random tables for as long as one likes, with frames that are refused memory now and then.
 
 use crate::failed::{Failed, ensure};
-use asked_tables::asked::is_definite;
 use asked_tables::calls::{evaluate, has_accepted_graph, new_cache, new_graph};
 use chance::Chance;
 use delegate_parts::{Builder, Outcome};
@@ -204,4 +203,9 @@ where
             Ok(())
         }
     }
+}
+
+/// Whether the outcome is yes or no.
+fn is_definite(outcome: Outcome) -> bool {
+    matches!(outcome, Outcome::Yes | Outcome::No)
 }

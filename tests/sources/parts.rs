@@ -10,11 +10,13 @@
 //! | `random` | numbers that look random |
 //! | `faults` | the texts of faults |
 //!
-//! How things are told, the entries and what stores results are those of the library `parts_tests`.
+//! `told` says how things are told, `entries` has entries of the provisional cache, and `storing` stores results of goals that
+//! ask themselves.
 
 mod candidates;
 mod components;
 mod depths;
+mod entries;
 mod faults;
 mod heads;
 mod nested_goals;
@@ -26,4 +28,6 @@ mod results;
 mod reuse;
 mod stack;
 mod stored;
+mod storing;
+mod told;
 mod usages;

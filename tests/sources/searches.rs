@@ -7,9 +7,10 @@
 //! | `frames` | frames that are refused memory |
 //! | `uses` | games, blocks that a write may reach, shapes, and subtypes |
 //!
-//! `stored` tells what is stored of a table's goals, and `handed_out` has the graphs that are handed out for them, and the
+//! `asking` asks goals on a graph of their own, `stored` tells what is stored of a table's goals, and `handed_out` has the graphs that are handed out for them, and the
 //! checker's word on any graph.
 
+mod asking;
 mod checker;
 mod frames;
 mod handed_out;

@@ -13,21 +13,25 @@
 //! | `graph` | a graph made by hand, for the plain check of those (`flaws`) |
 //! | `drawn` | tables drawn at random, beside a solver that works out from the definition alone which goals have a proof graph (`decided`) |
 
+mod asked;
 mod cases;
 mod decided;
 mod drawing;
 mod flaws;
 mod idle;
+mod letters;
+mod lists;
 mod pairs;
 mod plain_graph;
 mod random_tables;
+mod run;
 mod runs;
 mod scripts;
 mod solved;
 mod switches;
 mod trees;
 
-use asked_tables::runs::Run;
+use run::Run;
 use runs::RUNS;
 use std::alloc::Global;
 use std::process::Abort;

@@ -40,20 +40,6 @@ where
     graph.evaluate_goal(cache, goal, step, builder)
 }
 
-/// Works the goal out for a proof tree.
-pub fn work_out<X, D>(
-    cache: &mut GlobalCache<D>,
-    depth: usize,
-    goal: X::Input,
-    builder: &mut D::ProofTreeBuilder,
-) -> Result<Answer<X::Result>, Fault<X::Input, X::Result>>
-where
-    X: Cx,
-    D: Delegate<Cx = X>,
-{
-    SearchGraph::<D>::evaluate_root_goal_for_proof_tree(cache, depth, goal, builder)
-}
-
 /// Asks the questions as a list.
 pub fn evaluate_list<X, D>(
     cache: &mut GlobalCache<D>,
@@ -78,7 +64,7 @@ where
 }
 
 /// Whether the checker accepts the graph.
-pub fn accepts<X, D>(
+fn accepts<X, D>(
     alloc: Global,
     cx: X,
     graph: &ProofGraph<X>,

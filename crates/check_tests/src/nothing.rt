@@ -1,29 +1,18 @@
 //! Tests of what needs no memory. Where each request of a test may be refused, as `tests/memory` does it, what these calls
 //! answer shows that they make none.
 
-use crate::asking::ask;
+use asked_tables::calls::{evaluate, is_idle, new_graph};
 use delegate_parts::{Builder, Outcome};
 use rule_tables::delegate::Table;
 use rule_tables::{Goal, Rules, TableDelegate};
 use search_graph::graph::SearchGraph;
-use search_parts::context::{Cx, Delegate, Fault};
-use search_parts::global_cache::{GlobalCache, NestedTest};
-use search_parts::parts::{AvailableDepth, CandidateHeadUsages, NestedGoals};
+use search_parts::context::{Answer, Cx, Delegate, Fault};
+use search_parts::global_cache::GlobalCache;
+use search_parts::parts::{AvailableDepth, CandidateHeadUsages};
+use search_parts::path::PathKind;
 use std::alloc::Global;
 use std::test::Fail;
-
-/// Accepts each result.
-struct Anything;
-
-impl<X: Cx> NestedTest<X> for Anything {
-    ghost use Rattle.std.specs.Prelude.{true};
-
-    ghost accepts = { λ test nested. true };
-
-    fn accepts(&self, _nested_goals: &NestedGoals<X>) -> bool {
-        true
-    }
-}
+use test_delegates::nested::Anything;
 
 /// What is seen of a goal that is asked once more, on a graph of its own.
 #[derive(Clone, Copy, Debug, PartialEq, Eq)]
@@ -100,6 +89,26 @@ where
         stored: stored_of::<X, D>(cache, depth, goal),
         found: found_of::<X, D>(cache, depth, goal),
     })
+}
+
+/// What the goal comes to, and whether a limit was met. No goal may be left under evaluation.
+fn ask<X, D>(
+    alloc: Global,
+    cache: &mut GlobalCache<D>,
+    depth: usize,
+    goal: Goal,
+    builder: &mut Builder,
+) -> Result<(Result<Answer<Outcome>, Fault<Goal, Outcome>>, bool), Fail>
+where
+    X: Cx<Input = Goal, Result = Outcome>,
+    D: Delegate<Cx = X, ProofTreeBuilder = Builder>,
+{
+    let mut graph = new_graph::<X, D>(alloc, depth);
+    let answer = evaluate::<X, D>(&mut graph, cache, goal, PathKind::Inductive, builder);
+    if !is_idle::<X, D>(&graph) {
+        return Err("goals are left under evaluation")?;
+    }
+    Ok((answer, graph.limits_met()))
 }
 
 /// What is stored of the goal.

@@ -1,2 +1,2 @@
 mod Within
-mod StoredLoops
+mod Ranks

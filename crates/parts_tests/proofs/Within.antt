@@ -1,14 +1,11 @@
--- Answers whose heads stand on a stack of two goals.
+-- An answer more whose heads stand on a stack of two goals.
 use Rattle.std.proofs.Common.{◌≤◌, ◌≡◌, Bool, true, All, inl, inr, sym, subst}
 use Rattle.std.proofs.lemmas.Bool.{cases_Bool}
 use Rattle.std.proofs.lemmas.List.Elements.{All-push}
 use Rattle.parts_tests.specs.Below.{ProvisionalCacheEntry, entries_at, Lists, AppendsEntry}
+use Rattle.parts_tests.specs.Within.{AreWithin}
 
 module _ {X I R A T : Type 0} where
-  -- each head is that of the first goal or that of the second
-  abbrev pub AreWithin : (I → I → Bool) → Lists I (ProvisionalCacheEntry X I R A T) → Type 0
-  AreWithin same lists = (input : I) → All (λ entry. All (λ head. head.0.0 ≤ 1) entry.heads) (entries_at same lists input)
-
   pub pushed_within : (same : I → I → Bool) → ((x y : I) → same x y ≡ true → x ≡ y) → (old new : Lists I (ProvisionalCacheEntry X I R A T)) (goal : I) (entry : ProvisionalCacheEntry X I R A T)
       → AppendsEntry same old new goal entry → AreWithin same old → All (λ head. head.0.0 ≤ 1) entry.heads → AreWithin same new
   pushed_within same by_value old new goal entry appends within own = λ input. elim (cases_Bool (same goal input)) [

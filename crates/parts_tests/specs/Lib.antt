@@ -1,2 +1,2 @@
-pub mod NestedTests
+pub mod Within
 pub mod Below

@@ -2,10 +2,9 @@
 //! In a plain run nothing is refused, and each call succeeds at once; `tests/memory` refuses the requests in turn. A call
 //! that needs no memory then is one that has to succeed.
 
-use crate::entries::{GOAL, LOWER, USER};
-use crate::rebasing::{self, COINDUCTIVE, REASONS};
-use crate::stored::{Found, OfLoops, Storing};
-use crate::told::{KINDS, Told, usages_of};
+ghost use Rattle.std.specs.Prelude.{◌≡◌, ◌≢◌, ◌<◌, ◌≤◌, [], All, IfOk, OnOk};
+ghost use Rattle.parts_tests.specs.Within.{AreWithin};
+
 use bitflags::Flags;
 use cycle_heads::candidates::CandidateHeadUsages;
 use cycle_heads::depth::StackDepth;
@@ -14,13 +13,26 @@ use cycle_heads::usages::HeadUsages;
 use delegate_parts::{ContextOf, Outcome};
 use global_cache::GlobalCache;
 use path_kinds::path::{PathKind, PathsToNested};
-use search_context::context::{Cx, Delegate, Fault, NoMemory};
+use provisional_cache::{ProvisionalCache, ProvisionalCacheEntry, RebaseReason};
+use search_context::context::{Cx, Delegate, Fault, NoMemory, NodeId};
 use search_stack::depth::AvailableDepth;
 use search_stack::nested_goals::NestedGoals;
+use search_stack::result::EvaluationResult;
 use search_stack::stack::{Stack, StackEntry};
 use std::alloc::Global;
 use std::test::Fail;
 use test_delegates::loops::{Loops, LoopsContext, LoopsDelegate};
+
+/// The goals.
+const KINDS: [PathKind; 4] = [
+    PathKind::Inductive,
+    PathKind::Unknown,
+    PathKind::Coinductive,
+    PathKind::ForcedAmbiguity,
+];
+
+/// The goal that has entries and results.
+const GOAL: PathKind = PathKind::Unknown;
 
 /// What is called.
 #[derive(Clone, Copy)]
@@ -76,9 +88,7 @@ fn is_kept(alloc: Global, call: Call) -> Result<bool, NoMemory> {
         Call::Rebase => {
             rebases_or_empties::<LoopsContext, LoopsDelegate>(alloc, ContextOf(Loops))
         }
-        Call::StoredResult => {
-            keeps_results::<LoopsContext, LoopsDelegate, OfLoops>(alloc, ContextOf(Loops), &OfLoops)
-        }
+        Call::StoredResult => keeps_results(alloc),
     }
 }
 
@@ -230,7 +240,7 @@ fn keeps_heads(alloc: Global) -> Result<bool, NoMemory> {
 }
 
 fn keeps_usages(alloc: Global) -> Result<bool, NoMemory> {
-    let once = usages_of([0, 0, 1, 0]);
+    let once = used(1);
     let mut noted = CandidateHeadUsages::new(alloc);
     for number in 0..HEADS {
         let head = StackDepth::new(number);
@@ -241,18 +251,28 @@ fn keeps_usages(alloc: Global) -> Result<bool, NoMemory> {
             noted.note_usages(head, once)?;
         }
         let is_counted = noted.note_usages(head, once).is_ok();
-        if !is_counted || noted.get(head) != Some(usages_of([0, 0, 2, 0])) {
+        if !is_counted || noted.get(head) != Some(used(2)) {
             return Ok(false);
         }
     }
     Ok(noted.as_slice().len() == HEADS)
 }
 
+/// So many usages by coinductive cycles.
+fn used(coinductive: u32) -> HeadUsages {
+    HeadUsages {
+        inductive: 0,
+        unknown: 0,
+        coinductive,
+        forced_ambiguity: 0,
+    }
+}
+
 /// A candidate that used the heads of these numbers once.
 fn candidate(alloc: Global, from: usize, to: usize) -> Result<CandidateHeadUsages, NoMemory> {
     let mut candidate = CandidateHeadUsages::new(alloc);
     for number in from..to {
-        candidate.note_usages(StackDepth::new(number), usages_of([0, 0, 1, 0]))?;
+        candidate.note_usages(StackDepth::new(number), used(1))?;
     }
     Ok(candidate)
 }
@@ -289,28 +309,107 @@ where
     X: Cx<Input = PathKind, Result = Outcome, AmbiguityInfo = ()>,
     D: Delegate<Cx = X>,
 {
-    for reason in REASONS {
-        let mut told = Told::new(alloc);
-        let head = COINDUCTIVE;
-        let is_done = rebasing::tell::<X, D>(alloc, &mut told, cx, &[LOWER, USER], head, reason)?;
-        let is_empty = told.text()?.as_str() == "empty";
-        if is_empty == is_done {
+    for reason in 0..6usize {
+        if !rebases_or_empties_by::<X, D>(alloc, cx, reason)? {
             return Ok(false);
         }
     }
     Ok(true)
 }
 
-/// Stores forty results of a goal that met overflow at different depths, each of them twice.
-fn keeps_results<X, D, S>(alloc: Global, cx: X, storing: &S) -> Result<bool, NoMemory>
+/// The second goal on the stack is done. It rests on the first one by a coinductive cycle. One entry does too, and another one
+/// used the second goal.
+fn rebases_or_empties_by<X, D>(alloc: Global, cx: X, reason: usize) -> Result<bool, NoMemory>
 where
-    X: Cx<Input = PathKind, Result = Outcome>,
+    X: Cx<Input = PathKind, Result = Outcome, AmbiguityInfo = ()>,
     D: Delegate<Cx = X>,
-    S: Storing<D>,
 {
-    let mut cache = GlobalCache::<D>::new(alloc, cx);
+    let mut stack = Stack::<X>::new(alloc);
+    push(alloc, &mut stack, PathKind::ForcedAmbiguity);
+    if stack.len() != 1 {
+        return Err(NoMemory);
+    }
+    let done = done_goal::<X>(alloc)?;
+    let mut cache = cache_of_two::<X, D>(alloc, GOAL)?;
+    let is_done = cache.rebase(cx, &done, &stack, reason_of(reason)).is_ok();
+    Ok(cache.is_empty() != is_done)
+}
+
+fn reason_of<X: Cx<AmbiguityInfo = ()>>(number: usize) -> RebaseReason<X> {
+    match number {
+        0 => RebaseReason::NoCycleUsages,
+        1 => RebaseReason::Ambiguity(()),
+        2 => RebaseReason::Overflow,
+        3 => RebaseReason::ReachedFixpoint(None),
+        4 => RebaseReason::ReachedFixpoint(Some(PathKind::Coinductive)),
+        _ => RebaseReason::ReachedFixpoint(Some(PathKind::Inductive)),
+    }
+}
+
+/// The goal that is done.
+fn done_goal<X: Cx<Input = PathKind>>(alloc: Global) -> Result<StackEntry<X>, NoMemory>
+    ensures { IfOk result (λ done. All (λ head. head.0.0 < 1) done.state.heads) }
+{
+    let heads = head_at(alloc, 0)?;
+    let kind = PathKind::Inductive;
+    let mut done = StackEntry::new(alloc, kind, kind, AvailableDepth(3));
+    done.state.heads = heads;
+    Ok(done)
+}
+
+/// One head, the first goal of the stack or the second one, which was used once by a coinductive cycle.
+fn head_at(alloc: Global, depth: usize) -> Result<CycleHeads, NoMemory>
+    requires { depth ≤ 1 }
+    ensures some { IfOk result (λ heads. heads ≢ []) }
+    ensures within { IfOk result (All (λ head. head.0.0 ≤ 1)) }
+    ensures first { depth ≡ 0 → IfOk result (All (λ head. head.0.0 < 1)) }
+{
+    let mut heads = CycleHeads::new(alloc);
+    heads.insert(StackDepth::new(depth), PathsToNested::COINDUCTIVE, used(1))?;
+    Ok(heads)
+}
+
+/// A cache with the two entries of a goal.
+fn cache_of_two<X: Cx<Result = Outcome>, D: Delegate<Cx = X>>(
+    alloc: Global,
+    goal: X::Input,
+) -> Result<ProvisionalCache<D>, NoMemory>
+    ensures { IfOk result (AreWithin X.Input.eq) }
+{
+    let mut cache = ProvisionalCache::<D>::new(alloc);
+    append(&mut cache, alloc, goal, 0, Outcome::No)?;
+    append(&mut cache, alloc, goal, 1, Outcome::Yes)?;
+    Ok(cache)
+}
+
+/// Appends an entry of the goal that used the goal of this depth, over an inductive path.
+#[tactic(auto, using(crate::proofs::Within::pushed_within))]
+fn append<X: Cx<Result = Outcome>, D: Delegate<Cx = X>>(
+    cache: &mut ProvisionalCache<D>,
+    alloc: Global,
+    goal: X::Input,
+    depth: usize,
+    outcome: Outcome,
+) -> Result<(), NoMemory>
+    requires depth { depth ≤ 1 }
+    requires all { AreWithin X.Input.eq cache.old }
+    ensures { OnOk result (AreWithin X.Input.eq cache.new) }
+{
+    let entry = ProvisionalCacheEntry {
+        encountered_overflow: false,
+        heads: head_at(alloc, depth)?,
+        path_from_head: PathKind::Inductive,
+        result: outcome,
+        node: Some(NodeId(5)),
+    };
+    cache.push(goal, entry)
+}
+
+/// Stores forty results of a goal that met overflow at different depths, each of them twice.
+fn keeps_results(alloc: Global) -> Result<bool, NoMemory> {
+    let mut cache = GlobalCache::<LoopsDelegate>::new(alloc, ContextOf(Loops));
     for depth in 0..40usize {
-        if !keeps_result(&mut cache, storing, depth)? {
+        if !keeps_result(&mut cache, depth) {
             return Ok(false);
         }
     }
@@ -318,26 +417,33 @@ where
 }
 
 /// Stores a result where those of lower depths are stored.
-fn keeps_result<X, D, S>(
-    cache: &mut GlobalCache<D>,
-    storing: &S,
-    depth: usize,
-) -> Result<bool, NoMemory>
-where
-    X: Cx<Input = PathKind, Result = Outcome>,
-    D: Delegate<Cx = X>,
-    S: Storing<D>,
-{
-    let found = Found::Overflow(Outcome::Maybe, depth, None);
-    if storing.store(cache, GOAL, found)? == Err(Fault::Memory) {
+fn keeps_result(cache: &mut GlobalCache<LoopsDelegate>, depth: usize) -> bool {
+    if put(cache, depth) == Err(Fault::Memory) {
         if !has_below(cache, depth) {
-            return Ok(false);
+            return false;
         }
-        let _ = storing.store(cache, GOAL, found)?;
+        let _ = put(cache, depth);
     }
     // What is stored there is replaced by an equal one without memory.
-    let stored = storing.store(cache, GOAL, found)?;
-    Ok(stored.is_ok() && has_below(cache, depth.saturating_add(1)))
+    put(cache, depth).is_ok() && has_below(cache, depth.saturating_add(1))
+}
+
+/// Stores a result that met overflow. A goal that asks itself has no rank, so that any depth may be required.
+#[tactic(auto, using(crate::proofs::Ranks::has_no_rank, crate::proofs::Ranks::needs_no_graph))]
+fn put(
+    cache: &mut GlobalCache<LoopsDelegate>,
+    required_depth: usize,
+) -> Result<(), Fault<PathKind, Outcome>> {
+    let alloc = cache.allocator();
+    let evaluation_result = EvaluationResult {
+        encountered_overflow: true,
+        required_depth,
+        heads: CycleHeads::new(alloc),
+        nested_goals: NestedGoals::new(alloc),
+        result: Outcome::Maybe,
+        node: None,
+    };
+    cache.insert(GOAL, evaluation_result, ())
 }
 
 /// Whether the goal has a result at each depth below this one, and none at this one.

@@ -6,4 +6,5 @@ pub mod CountFrames
 pub mod CountLaws
 pub mod Scripts
 pub mod Below
+pub mod NestedTests
 pub mod Words

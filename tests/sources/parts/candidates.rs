@@ -1,8 +1,8 @@
 //! Tests of what candidates used of the goals on the stack.
 
+use crate::parts::told::{Counts, Told, usages_of};
 use cycle_heads::candidates::CandidateHeadUsages;
 use cycle_heads::depth::StackDepth;
-use parts_tests::told::{Counts, Told, usages_of};
 use path_kinds::memory::NoMemory;
 use std::alloc::Global;
 use std::test::Fail;

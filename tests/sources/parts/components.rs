@@ -1,6 +1,6 @@
 //! Tests of strongly connected components.
 
-use parts_tests::told::Told;
+use crate::parts::told::Told;
 use std::alloc::{AllocError, Global};
 use std::test::Fail;
 use strong_components::{components, stays_inside};

@@ -1,9 +1,9 @@
 //! Tests of the goals on the stack that an answer rests on.
 
+use crate::parts::told::{Counts, Told, usages_of};
 use cycle_heads::depth::StackDepth;
 use cycle_heads::heads::CycleHeads;
 use cycle_heads::usages::HeadUsages;
-use parts_tests::told::{Counts, Told, usages_of};
 use path_kinds::memory::NoMemory;
 use path_kinds::path::PathsToNested;
 use std::alloc::Global;

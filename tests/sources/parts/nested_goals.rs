@@ -1,6 +1,6 @@
 //! Tests of the goals below a goal. A goal is a kind of path here.
 
-use parts_tests::told::{KINDS, Told};
+use crate::parts::told::{KINDS, Told};
 use path_kinds::path::{PathKind, PathsToNested};
 use search_context::context::{Cx, NoMemory};
 use search_stack::nested_goals::NestedGoals;

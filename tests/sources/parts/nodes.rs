@@ -1,8 +1,8 @@
 //! Tests of the nodes of a cache, and of the graphs that are handed out. The goals ask themselves.
 
+use crate::parts::told::Told;
 use delegate_parts::{ContextOf, Outcome};
 use global_cache::GlobalCache;
-use parts_tests::told::Told;
 use path_kinds::path::PathKind;
 use search_context::context::{Cx, Delegate, NoMemory, Node, NodeId, Reply};
 use std::alloc::Global;

@@ -1,7 +1,7 @@
 //! Tests of sets of paths.
 
+use crate::parts::told::Told;
 use bitflags::Flags;
-use parts_tests::told::Told;
 use path_kinds::path::{PathKind, PathsToNested};
 use std::alloc::Global;
 use std::test::Fail;

@@ -1,9 +1,9 @@
 //! Tests of what is known of a goal once its evaluation has ended.
 
+use crate::parts::told::Told;
 use cycle_heads::depth::StackDepth;
 use cycle_heads::usages::HeadUsages;
 use delegate_parts::Outcome;
-use parts_tests::told::Told;
 use path_kinds::path::{PathKind, PathsToNested};
 use search_context::context::{Cx, NodeId};
 use search_stack::depth::AvailableDepth;

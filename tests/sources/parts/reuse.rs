@@ -1,9 +1,9 @@
 //! Tests of which provisional entries are found, which are used, and which are cleared when a goal is rerun.
 
+use crate::parts::entries::{GOAL, LOWER, TestEntry, USER, cache_of, tell_entries};
+use crate::parts::told::{Told, usages_of};
 use cycle_heads::depth::StackDepth;
 use delegate_parts::Outcome;
-use parts_tests::entries::{GOAL, LOWER, TestEntry, USER, cache_of, tell_entries};
-use parts_tests::told::{Told, usages_of};
 use path_kinds::path::{PathKind, PathsToNested};
 use provisional_cache::ProvisionalCache;
 use search_context::context::{Cx, Delegate, NoMemory};

@@ -1,8 +1,8 @@
 //! Tests of the goals under evaluation. A goal is a kind of path here, but in the deep stack.
 
+use crate::parts::told::{KINDS, Told};
 use cycle_heads::depth::StackDepth;
 use delegate_parts::ContextOf;
-use parts_tests::told::{KINDS, Told};
 use path_kinds::path::PathKind;
 use search_context::context::{Cx, NoMemory};
 use search_stack::depth::AvailableDepth;

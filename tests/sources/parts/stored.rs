@@ -1,15 +1,16 @@
 //! Tests of the results that a cache stores, of goals that ask themselves.
 
+use crate::parts::storing::{Found, Stored, store};
+use crate::parts::told::{KINDS, Told};
 use delegate_parts::{ContextOf, Outcome};
 use global_cache::{CacheData, GlobalCache, NestedTest};
-use parts_tests::stored::{Anything, Found, Leaves, OfLoops, Stored, Storing};
-use parts_tests::told::{KINDS, Told};
 use path_kinds::path::PathKind;
 use search_context::context::{Cx, Delegate, Fault, NoMemory, NodeId};
 use search_stack::depth::AvailableDepth;
 use std::alloc::Global;
 use std::test::Fail;
 use test_delegates::loops::{Loops, LoopsContext, LoopsDelegate};
+use test_delegates::nested::{Anything, Leaves};
 
 /// A goal, what is stored of it, and what comes of it: what was answered each time, what is stored then, and at each depth up
 /// to 5 what is found where any goals may be below, and where none may be. A mark of `!` says that the result met overflow.
@@ -107,8 +108,7 @@ const ROWS: [(&str, PathKind, &[Found], &str); 9] = [
 fn stored_results_are_as_told(rt: HostRuntime) -> Result<(), Fail> {
     for (name, goal, found, wanted) in ROWS {
         let mut told = Told::new(rt.alloc());
-        let (cx, at) = (ContextOf(Loops), rt.alloc());
-        tell::<LoopsContext, LoopsDelegate, _>(at, &mut told, cx, &OfLoops, goal, found)?;
+        tell(rt.alloc(), &mut told, goal, found)?;
         let told = told.text()?;
         assert_eq!(rt; told.as_str(), wanted, "{name}");
     }
@@ -116,24 +116,12 @@ fn stored_results_are_as_told(rt: HostRuntime) -> Result<(), Fail> {
 }
 
 /// Tells what comes of these results in a cache of their own.
-fn tell<X, D, S>(
-    alloc: Global,
-    told: &mut Told,
-    cx: X,
-    storing: &S,
-    goal: PathKind,
-    results: &[Found],
-) -> Result<(), NoMemory>
-where
-    X: Cx<Input = PathKind, Result = Outcome>,
-    D: Delegate<Cx = X>,
-    S: Storing<D>,
-{
-    let mut cache = GlobalCache::<D>::new(alloc, cx);
+fn tell(alloc: Global, told: &mut Told, goal: PathKind, results: &[Found]) -> Result<(), NoMemory> {
+    let mut cache = GlobalCache::<LoopsDelegate>::new(alloc, ContextOf(Loops));
     for found in results {
-        tell_answer(told, storing.store(&mut cache, goal, *found)?);
+        tell_answer(told, store(&mut cache, goal, *found)?);
     }
-    tell_all(told, &cache, goal);
+    tell_all::<LoopsContext, LoopsDelegate>(told, &cache, goal);
     Ok(())
 }
 

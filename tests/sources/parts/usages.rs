@@ -1,7 +1,7 @@
 //! Tests of counts of usages.
 
+use crate::parts::told::{Counts, KINDS, Told, usages_of};
 use cycle_heads::usages::HeadUsages;
-use parts_tests::told::{Counts, KINDS, Told, usages_of};
 use path_kinds::path::PathKind;
 use std::alloc::Global;
 use std::test::Fail;

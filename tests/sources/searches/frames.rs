@@ -1,10 +1,10 @@
 //! Tests of frames that are refused memory, by each call of a frame in turn.
 
+use crate::searches::asking::ask;
 use crate::searches::handed_out::{Nodes, graph_for};
 use crate::searches::stored::tell_stored;
-use asked_tables::calls::accepts;
-use check_tests::asking::ask;
 use delegate_parts::{Builder, Outcome};
+use graph_check::check_graph;
 use rule_tables::delegate::Table;
 use rule_tables::{Goal, Rules, TableDelegate};
 use search_parts::context::{Cx, Delegate, NoMemory, ProofGraph, Verdict};
@@ -215,7 +215,7 @@ where
             builder: Builder::new(true),
             call,
         };
-        match accepts::<X, Refusing<D>>(alloc, cx, &graph, goal, verdict, &mut refusals) {
+        match check_graph::<Refusing<D>>(alloc, cx, &graph, goal, verdict, &mut refusals) {
             Err(NoMemory) => {}
             Ok(true) => return Ok(call.saturating_sub(1)),
             Ok(false) => return Err("the checker refuses the graph")?,

@@ -1,7 +1,8 @@
 //! Graphs that a search handed out over a table of rules, and the checker's word on any graph.
 
-use asked_tables::calls::{accepts, new_cache};
-use check_tests::asking::ask;
+use crate::searches::asking::ask;
+use asked_tables::calls::new_cache;
+use graph_check::check_graph;
 use rule_tables::delegate::Table;
 use rule_tables::{Builder, Goal, Outcome, Rules, TableDelegate};
 use search_parts::context::{Cx, Delegate, Edge, Node, NodeId, ProofGraph, Reply, Verdict};
@@ -99,7 +100,7 @@ where
 {
     let graph: ProofGraph<X> = ProofGraph { nodes };
     let mut builder = Builder::new(true);
-    Ok(accepts::<X, D>(alloc, cx, &graph, goal, verdict, &mut builder)?)
+    Ok(check_graph::<D>(alloc, cx, &graph, goal, verdict, &mut builder)?)
 }
 
 /// A copy of the node.

@@ -1,11 +1,11 @@
 //! Runs over tables of rules, in the format of `vectors/README.md` with its options and sections.
 
+use crate::tables::asked::Answered;
 use crate::tables::drawing::{start_line, write_graph};
 use crate::tables::idle::write_idle;
+use crate::tables::lists::{answers_to, lists_have};
 use crate::tables::trees::{write_record, write_tree};
-use asked_tables::asked::Answered;
 use asked_tables::calls::new_cache;
-use asked_tables::lists::{answers_to, lists_have};
 use delegate_parts::{Builder, Outcome};
 use rule_tables::delegate::Table;
 use rule_tables::{Goal, Rules, TableDelegate};

@@ -9,9 +9,9 @@
 //! more writes greater numbers into them, and calls `tests/unproved tables`: ten times as many take four minutes, and for more
 //! than that the script has to give the run more seconds. The first tables of a row stay the same.
 
+use crate::tables::asked::{Way, ask};
 use crate::tables::random_tables::{Kinds, random_goals, text_of};
 use crate::tables::solved::have_proofs;
-use asked_tables::asked::{Way, ask};
 use asked_tables::calls::new_cache;
 use asked_tables::early::EarlyDelegate;
 use chance::Chance;

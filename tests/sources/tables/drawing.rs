@@ -4,7 +4,7 @@
 //! its edges lead to follow in the edges' order, each with one more space in front. Where an edge leads back to a node
 //! above, its line says how many edges up that stands. An answer without a node is its result alone.
 
-use asked_tables::letters::letter_of;
+use crate::tables::letters::letter_of;
 use delegate_parts::{Builder, Outcome};
 use rule_tables::{Goal, Rules};
 use search_parts::context::{Answer, Cx, Delegate, Edge, Node, Reply};

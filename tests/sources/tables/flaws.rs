@@ -3,8 +3,8 @@
 //! A run has a table and then a line `shown`: the result of all nodes, the nodes' goals in the order of their places, and the
 //! edges, each with its place, its question and the place that it leads to. It says what is wrong with that as a graph of A.
 
+use crate::tables::letters::kind_of;
 use crate::tables::plain_graph::{ShownEdge, ShownGraph, ShownNode};
-use asked_tables::letters::kind_of;
 use delegate_parts::Outcome;
 use rule_tables::Rules;
 use std::alloc::Global;

@@ -14,10 +14,10 @@
 //! | `alternatives together`, `together alternatives` | 7736 yes 6008 no 19024 neither 512 decided |
 //! | `together together` | 1352 yes 13832 no 17584 neither 512 decided |
 
+use crate::tables::asked::{Answered, Way, ask, is_definite};
+use crate::tables::lists::{answers_to, lists_have};
 use crate::tables::plain_graph::ShownGraph;
-use asked_tables::asked::{Answered, Way, ask, is_definite};
 use asked_tables::calls::new_cache;
-use asked_tables::lists::{answers_to, lists_have};
 use delegate_parts::{Builder, Outcome};
 use rule_tables::delegate::Table;
 use rule_tables::{Goal, Rules, TableDelegate};

@@ -6,10 +6,10 @@
 //! the frames that it started, the nodes of its graph, or after a fault how many nodes are held, and the successes that are
 //! stored then. A node has its goal, its replies, and its edges with the places that they lead to.
 
+use crate::tables::asked::is_shown;
 use crate::tables::drawing::{draw_replies, start_line};
-use asked_tables::asked::is_shown;
+use crate::tables::letters::{kind_of, letter_of};
 use asked_tables::calls::{evaluate, is_idle, new_cache, new_graph};
-use asked_tables::letters::{kind_of, letter_of};
 use delegate_parts::{Builder, ContextOf, Outcome};
 use search_graph::graph::SearchGraph;
 use search_parts::context::{Answer, Cx, Delegate, Fault, Node};

@@ -1,9 +1,10 @@
 //! Proof trees that are recorded.
 
-use asked_tables::calls::{new_cache, work_out};
+use asked_tables::calls::new_cache;
 use delegate_parts::{Builder, Outcome};
 use proof_trees::{Recorder, Recording, write_entries};
 use rule_tables::{Goal, Rules};
+use search_graph::graph::SearchGraph;
 use search_parts::context::{Cx, Delegate};
 use std::alloc::Global;
 use std::io::Write;
@@ -27,7 +28,12 @@ where
 {
     let mut cache = new_cache::<X, Recording<D>>(alloc, cx);
     let mut recorder = Recorder::new(alloc, Builder::new(true), is_recording);
-    let _answer = work_out::<X, Recording<D>>(&mut cache, depth, goal, &mut recorder)?;
+    let _answer = SearchGraph::<Recording<D>>::evaluate_root_goal_for_proof_tree(
+        &mut cache,
+        depth,
+        goal,
+        &mut recorder,
+    )?;
     Ok(recorder)
 }
 

@@ -1,21 +1,21 @@
 //! What is done with a cache over a table of rules, where stored results of some goals are validated, and what comes of it.
 
+use crate::searches::asking::ask;
 use crate::searches::stored::tell_stored;
 use crate::searches::validation::put::put_neither;
-use asked_tables::calls::work_out;
-use check_tests::asking::ask;
-use check_tests::journal::{Event, Journal};
-use check_tests::validating::{Validating, Watched};
-use check_tests::watch::{Watch, Watches};
 use delegate_parts::{Builder, Outcome};
 use rule_tables::delegate::Table;
 use rule_tables::{Goal, Rules, TableDelegate};
+use search_graph::graph::SearchGraph;
 use search_parts::context::{Answer, Cx, Delegate, Fault};
 use search_parts::global_cache::GlobalCache;
 use search_parts::parts::{CycleHeads, EvaluationResult, NestedGoals};
 use std::alloc::Global;
 use std::io::Write;
 use std::test::Fail;
+use test_delegates::journal::{Event, Journal};
+use test_delegates::validating::{Validating, Watched};
+use test_delegates::watch::{Watch, Watches};
 
 /// What is done with a cache.
 #[derive(Clone, Copy)]
@@ -184,7 +184,9 @@ where
             let (answer, _) = ask::<X, D>(alloc, cache, depth, goal, &mut builder)?;
             answer
         }
-        Way::Tree | Way::RecordedTree => { work_out::<X, D>(cache, depth, goal, &mut builder) }
+        Way::Tree | Way::RecordedTree => {
+            SearchGraph::<D>::evaluate_root_goal_for_proof_tree(cache, depth, goal, &mut builder)
+        }
     };
     Ok((answer, builder.started()))
 }

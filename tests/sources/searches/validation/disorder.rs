@@ -1,17 +1,17 @@
 //! A goal whose stored result is validated, and which comes to a request out of order meanwhile.
 
+use crate::searches::asking::ask;
 use crate::searches::validation::acts::{count, put};
-use check_tests::asking::ask;
-use check_tests::journal::Event;
-use check_tests::validating::{Validating, Watched};
-use check_tests::watch::{Watch, Watches};
 use delegate_parts::{Builder, ContextOf, Outcome};
 use search_parts::context::{Cx, Delegate, Fault};
 use search_parts::global_cache::GlobalCache;
 use search_parts::path::PathKind;
 use std::alloc::Global;
 use std::test::Fail;
+use test_delegates::journal::Event;
 use test_delegates::scripts::{Goal, Line, Scripts, ScriptsDelegate};
+use test_delegates::validating::{Validating, Watched};
+use test_delegates::watch::{Watch, Watches};
 
 // The first goal asks itself, so that a result may be stored of it, and then one whose first request is out of order. One
 // scope is held for the goal, and another one is entered where it asks itself.

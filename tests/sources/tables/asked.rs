@@ -1,7 +1,8 @@
 //! Goals that are asked, whatever they are.
 
-use crate::calls::{evaluate, has_accepted_graph, new_graph, work_out};
+use asked_tables::calls::{evaluate, has_accepted_graph, new_graph};
 use delegate_parts::{Builder, Outcome};
+use search_graph::graph::SearchGraph;
 use search_parts::context::{Answer, Cx, Delegate, Fault, NoMemory};
 use search_parts::global_cache::GlobalCache;
 use search_parts::path::PathKind;
@@ -92,7 +93,12 @@ where
     D: Delegate<Cx = X, ProofTreeBuilder = Builder>,
 {
     let mut builder = Builder::new(noop);
-    let came = work_out::<X, D>(cache, depth, goal, &mut builder);
+    let came = SearchGraph::<D>::evaluate_root_goal_for_proof_tree(
+        cache,
+        depth,
+        goal,
+        &mut builder,
+    );
     answered_from::<X>(came, builder.started(), false)
 }
 

@@ -69,8 +69,8 @@ pub struct Validating<W, D> {
 impl<W: Watches<<D::Cx as Cx>::Input, <D::Cx as Cx>::Result>, D: Delegate> Delegate
     for Validating<W, D> {
     ghost use Rattle.std.specs.Prelude.{◌≡◌, ◌<◌, IfOk, OnOk};
-    ghost use Rattle.check_tests.specs.Below.{CanTake, Steps};
-    ghost use Rattle.check_tests.specs.declared.validating.Watched.{Watched};
+    ghost use Rattle.search_context.specs.Delegate.{CanTake, Steps};
+    ghost use Rattle.test_delegates.specs.declared.validating.Watched.{Watched};
 
     type Cx = Watched<W, D::Cx>;
 

@@ -31,8 +31,7 @@ pub fn usages_of(counts: Counts) -> HeadUsages {
     }
 }
 
-/// What is told of a row. Nothing is promised of it, since the run compares it, and no call fails, so that the proofs of
-/// those who tell have little to say.
+/// What is told of a row. No call fails, so that those who tell have little to say of memory.
 #[derive(Drop)]
 pub struct Told {
     text: String,

@@ -1,8 +1,6 @@
 //! Provisional entries for the tests of the provisional cache.
-ghost use Rattle.std.specs.Prelude.{◌≡◌, ◌≢◌, ◌≤◌, [], All, IfOk};
-ghost use Rattle.parts_tests.specs.Below.{entries_at};
 
-use crate::told::{Counts, Told, usages_of};
+use crate::parts::told::{Counts, Told, usages_of};
 use cycle_heads::depth::StackDepth;
 use cycle_heads::heads::CycleHeads;
 use delegate_parts::Outcome;
@@ -56,10 +54,7 @@ pub const LOWER: TestEntry = TestEntry {
 fn entry_of<X: Cx<Result = Outcome>>(
     alloc: Global,
     entry: TestEntry,
-) -> Result<ProvisionalCacheEntry<X>, NoMemory>
-    ensures some { IfOk result (λ entry. entry.heads ≢ []) }
-    ensures within { IfOk result (λ entry. All (λ head. head.0.0 ≤ 1) entry.heads) }
-{
+) -> Result<ProvisionalCacheEntry<X>, NoMemory> {
     let mut heads = CycleHeads::new(alloc);
     let depth = StackDepth::new(entry.head.min(1));
     heads.insert(depth, PathsToNested::COINDUCTIVE, usages_of(entry.counts))?;
@@ -77,11 +72,7 @@ pub fn cache_of<X: Cx<Result = Outcome>, D: Delegate<Cx = X>>(
     alloc: Global,
     goal: X::Input,
     entries: &[TestEntry],
-) -> Result<ProvisionalCache<D>, NoMemory>
-    ensures { IfOk result (λ cache. (input : X.Input) →
-        All (λ entry. All (λ head. head.0.0 ≤ 1) entry.heads)
-        (entries_at X.Input.eq cache input)) }
-{
+) -> Result<ProvisionalCache<D>, NoMemory> {
     let mut cache = ProvisionalCache::<D>::new(alloc);
     for entry in entries {
         cache.push(goal, entry_of(alloc, *entry)?)?;
