@@ -1,8 +1,8 @@
 -- Values that are spelled one after the other.
-use Rattle.std.proofs.Common.{◌≡◌, ◌∙◌, All, ap, List, [], ◌∷◌, ◌++◌, refl, sym}
+use Rattle.std.proofs.Common.{◌≡◌, ◌∙◌, All, ap, List, [], ◌∷◌, ◌++◌, refl, sym, ℕ}
 use Rattle.std.proofs.lemmas.List.Elements.{All-head, All-tail}
-use Rattle.json.specs.Token.{Token, begin_array, end_array}
-use Rattle.graph_pages.specs.Data.{array_tokens, StandsFirst, list_tokens, Spells}
+use Rattle.json.specs.Token.{Token, begin_array, end_array, key}
+use Rattle.graph_pages.specs.Data.{array_tokens, list_tokens, member_tokens, Spells, StandsFirst}
 
 module _ {A : Type 0} (spelled : A → List Token → List Token) where
   -- where a value ends is told by its tokens, and they are not the end of an array
@@ -18,12 +18,12 @@ module _ {A : Type 0} (spelled : A → List Token → List Token) where
   list_tokens-push [] x rest = refl
   list_tokens-push (first ∷ xs) x rest = ap (spelled first) (list_tokens-push xs x rest)
 
-  -- one value more of an array is read
-  pub array_more : (xs ys : List A) (x : A) (whole left after : List Token) → whole ≡ begin_array ∷ list_tokens spelled xs left → left ≡ spelled x after → ys ≡ xs ++ x ∷ [] →
-      whole ≡ begin_array ∷ list_tokens spelled ys after
-  array_more xs ys x whole left after so_far one same =
-      so_far ∙ ap (λ ts. begin_array ∷ list_tokens spelled xs ts) one
-      ∙ sym (ap (λ zs. begin_array ∷ list_tokens spelled zs after) same ∙ ap (λ ts. begin_array ∷ ts) (list_tokens-push xs x after))
+  -- one value more of an array is read, which a member has
+  pub array_more : (name : List ℕ) (xs ys : List A) (x : A) (whole left after : List Token) → whole ≡ key name ∷ begin_array ∷ list_tokens spelled xs left → left ≡ spelled x after → ys ≡ xs ++ x ∷ [] →
+      whole ≡ key name ∷ begin_array ∷ list_tokens spelled ys after
+  array_more name xs ys x whole left after so_far one same =
+      so_far ∙ ap (λ ts. key name ∷ begin_array ∷ list_tokens spelled xs ts) one
+      ∙ sym (ap (λ zs. key name ∷ begin_array ∷ list_tokens spelled zs after) same ∙ ap (λ ts. key name ∷ begin_array ∷ ts) (list_tokens-push xs x after))
 
   module _ (parts : Parts) where
     -- the array's values tell where it ends
@@ -48,8 +48,8 @@ module _ {A : Type 0} (spelled : A → List Token → List Token) where
     list_left P (x ∷ xs) [] left rest q no_end h = absurd (parts.is_no_end x _ _ h)
     list_left P (x ∷ xs) (y ∷ ys) left rest q no_end h = list_left P xs ys left rest (All-tail P y ys q) no_end (parts.tail x y _ _ h)
 
-    pub array_left : (P : A → Type 0) (xs : List A) (whole left : List Token) → whole ≡ begin_array ∷ list_tokens spelled xs left → (StandsFirst end_array left → ⊥) → Spells (All P) (array_tokens spelled) whole → Spells P spelled left
-    array_left P xs whole left so_far no_end all =
-        let same : begin_array ∷ list_tokens spelled xs left ≡ begin_array ∷ list_tokens spelled all.value (end_array ∷ all.rest) = sym so_far ∙ all.are_its in
+    pub array_left : (name : List ℕ) (P : A → Type 0) (xs : List A) (whole left : List Token) → whole ≡ key name ∷ begin_array ∷ list_tokens spelled xs left → (StandsFirst end_array left → ⊥) → Spells (All P) (member_tokens name (array_tokens spelled)) whole → Spells P spelled left
+    array_left name P xs whole left so_far no_end all =
+        let same : key name ∷ begin_array ∷ list_tokens spelled xs left ≡ key name ∷ begin_array ∷ list_tokens spelled all.value (end_array ∷ all.rest) = sym so_far ∙ all.are_its in
         let same_rest : list_tokens spelled xs left ≡ list_tokens spelled all.value (end_array ∷ all.rest) = cc in
         list_left P xs all.value left all.rest all.is_right no_end same_rest

@@ -1,6 +1,6 @@
 -- A page of data, and the rules on it.
-use Rattle.std.proofs.Common.{◌≡◌, ◌∙◌, ℕ, All, ap, append_assoc, codes, List, [], ◌∷◌, ◌++◌, None, Option, refl, Some, subst, sym}
-use Rattle.std.specs.Prelude.{⊤, IsSomeAnd, MatchOption, slice_get}
+use Rattle.std.proofs.Common.{◌≡◌, ◌∙◌, ℕ, All, ap, append_assoc, codes, List, [], ◌∷◌, ◌++◌, None, Option, Some, subst, sym}
+use Rattle.std.specs.Prelude.{⊤, Err, IfOk, IsSomeAnd, Ok, Result, MatchOption, slice_get}
 use Rattle.std.proofs.lemmas.List.{flat_map_more}
 use Rattle.std.proofs.lemmas.Slice.Zip.{AllZip-left}
 use Rattle.json.specs.Token.{Token, begin_object, end_array, end_object, key}
@@ -14,8 +14,8 @@ use Rattle.graph_pages.proofs.Readback.{claim_parts, claim_tells}
 use Rattle.graph_pages.proofs.SameRules.{same_rules}
 use Rattle.graph_pages.proofs.Statements.{says_one}
 use Rattle.graph_pages.specs.Below.{IsFirstBadLine, names_of, Reads, Rules}
-use Rattle.graph_pages.specs.Data.{array_tokens, claim_tokens, IsClaim, list_tokens, PlainClaim, Spells, string_tokens}
-use Rattle.graph_pages.specs.Page.{AreOfPage, text_of}
+use Rattle.graph_pages.specs.Data.{array_tokens, claim_tokens, IsClaim, list_tokens, member_tokens, PlainClaim, Spells, string_tokens}
+use Rattle.graph_pages.specs.Page.{AreOfPage, HasRules, IsPage, text_of}
 use Rattle.graph_pages.specs.Rules.{AreSameRules}
 
 -- a text makes one table
@@ -48,72 +48,79 @@ line_parts = record { tail = λ x y r s h. cc; is_no_end = λ x r s h. absurd (c
 line_tells : Tells string_tokens (λ _. ⊤)
 line_tells x y r s p q h = cc
 
-module _ (whole t₁ t₂ : List Token) (page : AreOfPage whole) (begun : whole ≡ begin_object ∷ t₁) (rules_key : t₁ ≡ key (codes "rules") ∷ t₂) where
-  -- what follows the lines
-  abbrev after_lines : List Token
-  after_lines = key (codes "answers") ∷ array_tokens (claim_tokens (names_of page.rules)) page.claims (end_object ∷ [])
+-- a page tells its lines and what follows them
+lines_told : (some others : List (List ℕ)) (r s : List Token) → begin_object ∷ key (codes "rules") ∷ array_tokens string_tokens some r ≡ begin_object ∷ key (codes "rules") ∷ array_tokens string_tokens others s → (some ≡ others) × (r ≡ s)
+lines_told some others r s same =
+    let same_list : list_tokens string_tokens some (end_array ∷ r) ≡ list_tokens string_tokens others (end_array ∷ s) = cc in (
+      array_told string_tokens line_parts (λ _. ⊤) line_tells some others r s (λ k d below. tt) (λ k d below. tt) same_list,
+      array_tail string_tokens line_parts some others r s same_list,
+    )
 
-  all_lines_left : t₂ ≡ array_tokens string_tokens page.is_page.lines after_lines
-  all_lines_left = cc (page.is_page.are_its)
+-- the rules of the page's lines
+module _ (whole t₁ : List Token) (begun : whole ≡ begin_object ∷ t₁) where
+  pub lines_left : (rules : Rules) (rest : List Token) → HasRules whole rules rest → Spells (λ _. ⊤) (member_tokens (codes "rules") (array_tokens string_tokens)) t₁
+  lines_left rules rest has = let its = has.are_its in record { value = has.lines; is_right = tt; rest = rest; are_its = cc }
 
-  pub lines_left : Spells (λ _. ⊤) (array_tokens string_tokens) t₂
-  lines_left = record { value = page.is_page.lines; is_right = tt; rest = after_lines; are_its = all_lines_left }
+  module _ (t₂ : List Token) (lines : List (List ℕ)) (text : List ℕ) (has_lines : t₁ ≡ member_tokens (codes "rules") (array_tokens string_tokens) lines t₂) (is_text : text ≡ text_of lines) where
+    pub rules_read : {E : Type 0} (r : Result Rules E) → IfOk r (Reads text) → IfOk r (λ rules. HasRules whole rules t₂)
+    rules_read (Ok rules) reads = record { lines = lines; reads = subst (λ t. Reads t rules) is_text reads; are_its = begun ∙ ap (λ ts. begin_object ∷ ts) has_lines }
+    rules_read (Err e) reads = tt
 
-  module _ (t₃ : List Token) (lines : List (List ℕ)) (has_lines : t₂ ≡ array_tokens string_tokens lines t₃) where
-    same_lines : list_tokens string_tokens page.is_page.lines (end_array ∷ after_lines) ≡ list_tokens string_tokens lines (end_array ∷ t₃)
-    same_lines = let left = all_lines_left in cc
+    pub text_reads : (rules : Rules) (rest : List Token) → HasRules whole rules rest → Reads text rules
+    text_reads rules rest has =
+        let same : has.lines ≡ lines = (lines_told has.lines lines rest t₂ (sym has.are_its ∙ begun ∙ ap (λ ts. begin_object ∷ ts) has_lines)).0 in
+        subst (λ t. Reads t rules) (ap text_of same ∙ sym is_text) has.reads
 
-    -- its lines make rules
-    pub lines_read : Reads (text_of lines) page.rules
-    lines_read =
-        let same = array_told string_tokens line_parts (λ _. ⊤) line_tells page.is_page.lines lines after_lines t₃ (λ k d below. tt) (λ k d below. tt) same_lines in
-        subst (λ ls. Reads (text_of ls) page.rules) same page.is_page.reads
+-- what follows the rules
+module _ (whole rest : List Token) (rules : Rules) (has : HasRules whole rules rest) where
+  pub page_read : (t₁ : List Token) (claims : List PlainClaim) → rest ≡ member_tokens (codes "answers") (array_tokens (claim_tokens (names_of rules))) claims t₁ → All (IsClaim (names_of rules)) claims → t₁ ≡ end_object ∷ [] → IsPage whole rules claims
+  page_read t₁ claims has_claims named ended = record {
+    lines = has.lines;
+    reads = has.reads;
+    named = named;
+    are_its = has.are_its ∙ ap (λ ts. begin_object ∷ key (codes "rules") ∷ array_tokens string_tokens has.lines ts) (has_claims ∙ ap (λ ts. key (codes "answers") ∷ array_tokens (claim_tokens (names_of rules)) claims ts) ended);
+  }
 
-    pub answers_left : t₃ ≡ after_lines
-    answers_left = sym (array_tail string_tokens line_parts page.is_page.lines lines after_lines t₃ same_lines)
+  module _ (page : AreOfPage whole) where
+    told : (page.is_page.lines ≡ has.lines) × (key (codes "answers") ∷ array_tokens (claim_tokens (names_of page.rules)) page.claims (end_object ∷ []) ≡ rest)
+    told = lines_told page.is_page.lines has.lines _ rest (sym page.is_page.are_its ∙ has.are_its)
 
-    module _ (rules : Rules) (reads : Reads (text_of lines) rules) where
-      -- in which goals have the same names
-      names_read : names_of page.rules ≡ names_of rules
-      names_read = sym (one_table (text_of lines) page.rules rules lines_read reads).names
+    -- they are the same rules
+    same_table : AreSameRules page.rules rules
+    same_table = one_table (text_of has.lines) page.rules rules (subst (λ ls. Reads (text_of ls) page.rules) told.0 page.is_page.reads) has.reads
 
-      module _ (t₄ : List Token) (answers_key : t₃ ≡ key (codes "answers") ∷ t₄) where
-        array_of_claims : t₄ ≡ array_tokens (claim_tokens (names_of rules)) page.claims (end_object ∷ [])
-        array_of_claims =
-            let left = answers_left in
-            let so_far : t₄ ≡ array_tokens (claim_tokens (names_of page.rules)) page.claims (end_object ∷ []) = cc in
-            so_far ∙ ap (λ names. array_tokens (claim_tokens names) page.claims (end_object ∷ [])) names_read
+    names_read : names_of page.rules ≡ names_of rules
+    names_read = sym same_table.names
 
-        pub claims_left : Spells (All (IsClaim (names_of rules))) (array_tokens (claim_tokens (names_of rules))) t₄
-        claims_left = record { value = page.claims; is_right = subst (λ names. All (IsClaim names) page.claims) names_read page.is_page.named; rest = end_object ∷ []; are_its = array_of_claims }
+    claims_and_end : rest ≡ key (codes "answers") ∷ array_tokens (claim_tokens (names_of rules)) page.claims (end_object ∷ [])
+    claims_and_end = sym told.1 ∙ ap (λ names. key (codes "answers") ∷ array_tokens (claim_tokens names) page.claims (end_object ∷ [])) names_read
 
-        module _ (t₅ : List Token) (claims : List PlainClaim) (has_claims : t₄ ≡ array_tokens (claim_tokens (names_of rules)) claims t₅) where
-          pub page_end : t₅ ≡ end_object ∷ []
-          page_end =
-              let left = array_of_claims in
-              let same : list_tokens (claim_tokens (names_of rules)) claims (end_array ∷ t₅) ≡ list_tokens (claim_tokens (names_of rules)) page.claims (end_array ∷ end_object ∷ []) = cc in
-              array_tail (claim_tokens (names_of rules)) (claim_parts (names_of rules)) claims page.claims _ _ same
+    claims_named : All (IsClaim (names_of rules)) page.claims
+    claims_named = subst (λ names. All (IsClaim names) page.claims) names_read page.is_page.named
 
-          pub nothing_left : (t₆ : List Token) → t₅ ≡ end_object ∷ t₆ → t₆ ≡ []
-          nothing_left t₆ ended = let left = page_end in cc
+    pub claims_left : Spells (All (IsClaim (names_of rules))) (member_tokens (codes "answers") (array_tokens (claim_tokens (names_of rules)))) rest
+    claims_left = record { value = page.claims; is_right = claims_named; rest = end_object ∷ []; are_its = claims_and_end }
+
+    pub page_end : (t₁ : List Token) (claims : List PlainClaim) → rest ≡ member_tokens (codes "answers") (array_tokens (claim_tokens (names_of rules))) claims t₁ → t₁ ≡ end_object ∷ []
+    page_end t₁ claims has_claims =
+        let left = claims_and_end in
+        let same : list_tokens (claim_tokens (names_of rules)) claims (end_array ∷ t₁) ≡ list_tokens (claim_tokens (names_of rules)) page.claims (end_array ∷ end_object ∷ []) = cc in
+        array_tail (claim_tokens (names_of rules)) (claim_parts (names_of rules)) claims page.claims _ _ same
 
 -- ---- so a page tells its claims
 
-claims_in_array : (names : List (List ℕ)) (some others : List PlainClaim) → array_tokens (claim_tokens names) some (end_object ∷ []) ≡ array_tokens (claim_tokens names) others (end_object ∷ []) →
+claims_in_array : (names : List (List ℕ)) (some others : List PlainClaim) → key (codes "answers") ∷ array_tokens (claim_tokens names) some (end_object ∷ []) ≡ key (codes "answers") ∷ array_tokens (claim_tokens names) others (end_object ∷ []) →
     list_tokens (claim_tokens names) some (end_array ∷ end_object ∷ []) ≡ list_tokens (claim_tokens names) others (end_array ∷ end_object ∷ [])
 claims_in_array names some others same = cc
 
 pub page_told : (whole : List Token) (written read : AreOfPage whole) → AreSameRules written.rules read.rules × (read.claims ≡ written.claims)
 page_told whole written read =
-    let lines : List (List ℕ) = read.is_page.lines in
     let names : List (List ℕ) = names_of read.rules in
-    let answers : List Token = array_tokens (claim_tokens names) read.claims (end_object ∷ []) in
-    let rest : List Token = key (codes "answers") ∷ answers in
-    let array : List Token = array_tokens string_tokens lines rest in
-    let same_names : names_of written.rules ≡ names = names_read whole (key (codes "rules") ∷ array) array written read.is_page.are_its refl rest lines refl read.rules read.is_page.reads in
-    let same : answers ≡ array_tokens (claim_tokens names) written.claims (end_object ∷ []) = array_of_claims whole (key (codes "rules") ∷ array) array written read.is_page.are_its refl rest lines refl read.rules read.is_page.reads answers refl in
+    let rest : List Token = key (codes "answers") ∷ array_tokens (claim_tokens names) read.claims (end_object ∷ []) in
+    let has : HasRules whole read.rules rest = record { lines = read.is_page.lines; reads = read.is_page.reads; are_its = read.is_page.are_its } in
+    let same : rest ≡ key (codes "answers") ∷ array_tokens (claim_tokens names) written.claims (end_object ∷ []) = claims_and_end whole rest read.rules has written in
     let same_list : list_tokens (claim_tokens names) read.claims (end_array ∷ end_object ∷ []) ≡ list_tokens (claim_tokens names) written.claims (end_array ∷ end_object ∷ []) = claims_in_array names _ _ same in (
-      one_table (text_of lines) written.rules read.rules (lines_read whole (key (codes "rules") ∷ array) array written read.is_page.are_its refl rest lines refl) read.is_page.reads,
-      array_told (claim_tokens names) (claim_parts names) (IsClaim names) (claim_tells names (have_own_names (text_of lines) read.rules read.is_page.reads)) read.claims written.claims _ _ read.is_page.named
-          (subst (λ ns. All (IsClaim ns) written.claims) same_names written.is_page.named) same_list,
+      same_table whole rest read.rules has written,
+      array_told (claim_tokens names) (claim_parts names) (IsClaim names) (claim_tells names (have_own_names (text_of read.is_page.lines) read.rules read.is_page.reads)) read.claims written.claims _ _ read.is_page.named
+          (claims_named whole rest read.rules has written) same_list,
     )

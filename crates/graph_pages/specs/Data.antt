@@ -65,6 +65,10 @@ outcome_tokens outcome rest = string (word_of outcome) ∷ rest
 abbrev pub reply_tokens : Reply Outcome → List Token → List Token
 reply_tokens reply rest = string (reply_word reply) ∷ rest
 
+-- a member of an object: its key, and its value
+abbrev pub member_tokens : {A : Type 0} → List ℕ → (A → List Token → List Token) → A → List Token → List Token
+member_tokens name spelled x rest = key name ∷ spelled x rest
+
 -- the names of goals, in the order of their numbers
 module _ (names : List (List ℕ)) where
   abbrev pub goal_text : Goal → List ℕ

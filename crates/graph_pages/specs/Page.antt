@@ -19,6 +19,12 @@ page_tokens lines names claims rest =
 abbrev pub text_of : List (List ℕ) → List ℕ
 text_of lines = flat_map (λ line. line ++ codes "\n") lines
 
+-- Lines that make these rules stand first on the page.
+pub record HasRules (tokens : List Token) (rules : Rules) (rest : List Token) : Type 0 where
+  pub lines : List (List ℕ)
+  pub reads : Reads (text_of lines) rules
+  pub are_its : tokens ≡ begin_object ∷ key (codes "rules") ∷ array_tokens string_tokens lines rest
+
 -- These tokens and no others are the page's. Its lines make the rules, and the claims are about these.
 pub record IsPage (tokens : List Token) (rules : Rules) (claims : List PlainClaim) : Type 0 where
   pub lines : List (List ℕ)

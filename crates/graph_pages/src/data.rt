@@ -1,11 +1,11 @@
 //! Graphs as data: what is written.
-ghost use Rattle.std.specs.Prelude.{◌≡◌, ◌∷◌, ℕ, List, OnOk, map};
+ghost use Rattle.std.specs.Prelude.{◌≡◌, ◌∷◌, ℕ, codes, List, OnOk, map};
 ghost use Rattle.std.specs.Bool.{MatchBool};
 ghost use Rattle.std.specs.Str.{IsUtf8};
-ghost use Rattle.json.specs.Token.{end_array, end_object};
+ghost use Rattle.json.specs.Token.{begin_array, begin_object, end_array, end_object, key};
 ghost use Rattle.rule_tables.specs.Grammar.{Nothing, Says};
 ghost use Rattle.graph_pages.specs.Below.{names_of, word_of};
-ghost use Rattle.graph_pages.specs.Data.{array_tokens, claim_tokens, edge_tokens, HaveTexts, list_tokens, node_tokens, plain_node, PutsTokens, reply_tokens, reply_word, string_tokens};
+ghost use Rattle.graph_pages.specs.Data.{array_tokens, claim_tokens, edge_tokens, HaveTexts, list_tokens, member_tokens, node_tokens, plain_node, PutsTokens, reply_tokens, reply_word, string_tokens};
 ghost use Rattle.graph_pages.specs.Page.{begun_page, text_of};
 ghost use Rattle.graph_pages.specs.Rules.{MakesTheSame, SayTheSame};
 
@@ -22,16 +22,42 @@ pub(crate) fn write_start(writer: &mut Writer<Global>, text: &[u8]) -> Result<()
     ensures { OnOk result ((lines : List (List ℕ)) × MakesTheSame text.now (text_of lines)
         × PutsTokens writer.old writer.new (begun_page lines)) }
 {
+    write_rules(writer, text)?;
+    begin_array_at(writer, "answers")?;
+    Ok(())
+}
+
+// The beginning of the page, with the lines of rules.
+fn write_rules(writer: &mut Writer<Global>, text: &[u8]) -> Result<(), AllocError>
+    ensures { OnOk result ((lines : List (List ℕ)) × MakesTheSame text.now (text_of lines)
+        × PutsTokens writer.old writer.new (λ rest.
+        begin_object ∷ key (codes "rules") ∷ array_tokens string_tokens lines rest)) }
+{
     writer.begin_object()?;
-    writer.key("rules")?;
-    writer.begin_array()?;
+    begin_array_at(writer, "rules")?;
     for line in text.split(|byte| *byte == b'\n') {
         write_line(writer, line)?;
     }
     writer.end_array()?;
-    writer.key("answers")?;
-    writer.begin_array()?;
     Ok(())
+}
+
+// A key, and the beginning of the array that is its value.
+fn begin_array_at(writer: &mut Writer<Global>, name: &str) -> Result<(), AllocError>
+    ensures { OnOk result (PutsTokens writer.old writer.new (λ rest.
+        key name.now ∷ begin_array ∷ rest)) }
+{
+    writer.key(name)?;
+    writer.begin_array()
+}
+
+// A key, and the string that is its value.
+fn string_at(writer: &mut Writer<Global>, name: &str, text: &str) -> Result<(), AllocError>
+    ensures { OnOk result (PutsTokens writer.old writer.new
+        (member_tokens name.now string_tokens text.now)) }
+{
+    writer.key(name)?;
+    writer.string(text)
 }
 
 // Writes the line, if it says something.
@@ -68,8 +94,7 @@ pub(crate) fn write_end(writer: &mut Writer<Global>) -> Result<(), AllocError>
         end_array ∷ end_object ∷ rest)) }
 {
     writer.end_array()?;
-    writer.end_object()?;
-    Ok(())
+    writer.end_object()
 }
 
 /// Writes one answer with its graph. One without a graph has no nodes.
@@ -85,14 +110,10 @@ pub(crate) fn write_answer(
         (record { goal = goal; outcome = outcome; nodes = map plain_node nodes.now }))) }
 {
     writer.begin_object()?;
-    writer.key("goal")?;
-    writer.string(name_of(rules, goal))?;
-    writer.key("verdict")?;
-    writer.string(word(outcome))?;
-    writer.key("nodes")?;
+    string_at(writer, "goal", name_of(rules, goal))?;
+    string_at(writer, "verdict", word(outcome))?;
     write_nodes(writer, rules, nodes)?;
-    writer.end_object()?;
-    Ok(())
+    writer.end_object()
 }
 
 fn write_nodes(
@@ -101,9 +122,10 @@ fn write_nodes(
     nodes: &[Node<Goal, Outcome>],
 ) -> Result<(), AllocError>
     ensures { HaveTexts (names_of rules.now) → OnOk result (PutsTokens writer.old writer.new
-        (array_tokens (node_tokens (names_of rules.now)) (map plain_node nodes.now))) }
+        (member_tokens (codes "nodes") (array_tokens (node_tokens (names_of rules.now)))
+        (map plain_node nodes.now))) }
 {
-    writer.begin_array()?;
+    begin_array_at(writer, "nodes")?;
     for node in nodes {
         write_node(writer, rules, node)?;
     }
@@ -120,16 +142,11 @@ fn write_node(
         (PutsTokens writer.old writer.new (node_tokens (names_of rules.now) (plain_node node.now))) }
 {
     writer.begin_object()?;
-    writer.key("goal")?;
-    writer.string(name_of(rules, node.input))?;
-    writer.key("replies")?;
+    string_at(writer, "goal", name_of(rules, node.input))?;
     write_replies(writer, &node.replies)?;
-    writer.key("result")?;
-    writer.string(word(node.result))?;
-    writer.key("edges")?;
+    string_at(writer, "result", word(node.result))?;
     write_edges(writer, rules, &node.edges)?;
-    writer.end_object()?;
-    Ok(())
+    writer.end_object()
 }
 
 fn write_edges(
@@ -138,9 +155,9 @@ fn write_edges(
     edges: &[Edge<Goal>],
 ) -> Result<(), AllocError>
     ensures { HaveTexts (names_of rules.now) → OnOk result (PutsTokens writer.old writer.new
-        (array_tokens (edge_tokens (names_of rules.now)) edges.now)) }
+        (member_tokens (codes "edges") (array_tokens (edge_tokens (names_of rules.now))) edges.now)) }
 {
-    writer.begin_array()?;
+    begin_array_at(writer, "edges")?;
     for edge in edges {
         write_edge(writer, rules, *edge)?;
     }
@@ -150,9 +167,9 @@ fn write_edges(
 
 fn write_replies(writer: &mut Writer<Global>, replies: &[Reply<Outcome>]) -> Result<(), AllocError>
     ensures { OnOk result (PutsTokens writer.old writer.new
-        (array_tokens reply_tokens replies.now)) }
+        (member_tokens (codes "replies") (array_tokens reply_tokens) replies.now)) }
 {
-    writer.begin_array()?;
+    begin_array_at(writer, "replies")?;
     for reply in replies {
         writer.string(word_of_reply(*reply))?;
     }
@@ -179,14 +196,11 @@ fn write_edge(
         (PutsTokens writer.old writer.new (edge_tokens (names_of rules.now) edge)) }
 {
     writer.begin_object()?;
-    writer.key("kind")?;
-    writer.string(letter(edge.kind))?;
-    writer.key("goal")?;
-    writer.string(name_of(rules, edge.input))?;
+    string_at(writer, "kind", letter(edge.kind))?;
+    string_at(writer, "goal", name_of(rules, edge.input))?;
     writer.key("target")?;
     writer.u64(edge.target as u64)?;
-    writer.end_object()?;
-    Ok(())
+    writer.end_object()
 }
 
 /// The word of an outcome.

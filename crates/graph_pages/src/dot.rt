@@ -49,16 +49,28 @@ pub(crate) fn write_cluster<W: Write>(
     nodes: &[Node<Goal, Outcome>],
 ) -> io::Result<()> {
     let name = name_of(rules, goal);
-    writeln!(out, "  subgraph cluster_{number} {{")?;
-    writeln!(out, "    label=\"{name} {outcome}\";")?;
+    writeln!(
+        out,
+        "  subgraph cluster_{number} {{\n    label=\"{name} {outcome}\";"
+    )?;
     if nodes.is_empty() {
         write_node(out, rules, number, 0, goal, outcome)?;
     }
+    write_nodes(out, rules, number, nodes)?;
+    out.write_all(b"  }\n")
+}
+
+fn write_nodes<W: Write>(
+    out: &mut W,
+    rules: &Rules,
+    number: usize,
+    nodes: &[Node<Goal, Outcome>],
+) -> io::Result<()> {
     for (place, node) in nodes.iter().enumerate() {
         write_node(out, rules, number, place, node.input, node.result)?;
         write_edges(out, number, place, &node.edges)?;
     }
-    out.write_all(b"  }\n")
+    Ok(())
 }
 
 fn write_node<W: Write>(
@@ -84,16 +96,25 @@ fn write_edges<W: Write>(
     edges: &[Edge<Goal>],
 ) -> io::Result<()> {
     for edge in edges {
-        let target = edge.target;
-        let letter = letter(edge.kind);
-        let style = style(edge.kind);
-        let bend = bend(place, target);
-        writeln!(
-            out,
-            "    n{number}_{place} -> n{number}_{target} [label=\"{letter}\", style={style}{bend}];"
-        )?;
+        write_edge(out, number, place, *edge)?;
     }
     Ok(())
+}
+
+fn write_edge<W: Write>(
+    out: &mut W,
+    number: usize,
+    place: usize,
+    edge: Edge<Goal>,
+) -> io::Result<()> {
+    let target = edge.target;
+    let letter = letter(edge.kind);
+    let style = style(edge.kind);
+    let bend = bend(place, target);
+    writeln!(
+        out,
+        "    n{number}_{place} -> n{number}_{target} [label=\"{letter}\", style={style}{bend}];"
+    )
 }
 
 // An edge to a node that stands no later in the list does not push it down.

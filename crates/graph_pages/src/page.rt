@@ -13,6 +13,7 @@ use crate::form::Form;
 use crate::reason::write_reason;
 use crate::stop::Stop;
 use crate::text::write_text;
+use crate::watch::Reason;
 use crate::words::name_of;
 use json::Writer;
 use rule_tables::{Goal, Outcome, Rules};
@@ -172,21 +173,47 @@ fn add_text<W: Write>(
     came: &Came,
     depth: usize,
 ) -> io::Result<()> {
-    let name = name_of(rules, goal);
     match came {
         Came::Graph { nodes, .. } => write_text(alloc, out, rules, nodes, depth)?,
-        Came::NoGraph { outcome, reason } => {
-            let word = word(*outcome);
-            writeln!(out, "{name} is {word}")?;
-            write_reason(out, rules, goal, *reason)?;
-        }
-        Came::Unchecked(outcome) => writeln!(out, "{name} {outcome} unchecked")?,
-        Came::Fault(fault) => {
-            let word = fault_word(*fault);
-            writeln!(out, "{name} fault {word}")?;
-        }
+        Came::NoGraph { outcome, reason } => add_no_graph(out, rules, goal, *outcome, *reason)?,
+        Came::Unchecked(outcome) => add_unchecked(out, rules, goal, *outcome)?,
+        Came::Fault(fault) => add_fault(out, rules, goal, *fault)?,
     }
     out.write_all(b"\n")
+}
+
+fn add_no_graph<W: Write>(
+    out: &mut W,
+    rules: &Rules,
+    goal: Goal,
+    outcome: Outcome,
+    reason: Reason,
+) -> io::Result<()> {
+    let name = name_of(rules, goal);
+    let word = word(outcome);
+    writeln!(out, "{name} is {word}")?;
+    write_reason(out, rules, goal, reason)
+}
+
+fn add_unchecked<W: Write>(
+    out: &mut W,
+    rules: &Rules,
+    goal: Goal,
+    outcome: Outcome,
+) -> io::Result<()> {
+    let name = name_of(rules, goal);
+    writeln!(out, "{name} {outcome} unchecked")
+}
+
+fn add_fault<W: Write>(
+    out: &mut W,
+    rules: &Rules,
+    goal: Goal,
+    fault: Fault<Goal, Outcome>,
+) -> io::Result<()> {
+    let name = name_of(rules, goal);
+    let word = fault_word(fault);
+    writeln!(out, "{name} fault {word}")
 }
 
 fn fault_word(fault: Fault<Goal, Outcome>) -> &'static str {

@@ -1,19 +1,22 @@
 //! Graphs as data: what is read. Nothing in it is trusted.
-ghost use Rattle.std.specs.Prelude.{◌≡◌, ◌≢◌, ℕ, All, List, map, IfErr, IfNone, IfOk, IfSome, ⊤};
+ghost use Rattle.std.specs.Prelude.{◌≡◌, ◌≢◌, ℕ, All, codes, List, map, IfErr, IfNone, IfOk, IfSome, ⊤};
+ghost use Rattle.json.specs.Lex.{tokens};
 ghost use Rattle.json.specs.Token.{Token as SpecToken};
 ghost use Rattle.graph_pages.specs.Below.{names_of, Outcome as SpecOutcome, Reads, Reply as SpecReply, Rules as SpecRules, word_of};
-ghost use Rattle.graph_pages.specs.Data.{array_tokens, claim_tokens, edge_tokens, goal_tokens, HaveOwnNames, IsClaim, IsEdge, IsNamed, IsNode, kind_tokens, left_in, node_tokens, outcome_tokens, plain_claim, plain_node, PlainClaim, reply_tokens, reply_word, Spells, string_tokens};
-ghost use Rattle.graph_pages.specs.Page.{AreOfPage, IsPage, text_of};
+ghost use Rattle.graph_pages.specs.Data.{array_tokens, claim_tokens, edge_tokens, goal_tokens, HaveOwnNames, IsClaim, IsEdge, IsNamed, IsNode, kind_tokens, left_in, member_tokens, node_tokens, outcome_tokens, plain_claim, plain_node, PlainClaim, reply_tokens, reply_word, Spells, string_tokens};
+ghost use Rattle.graph_pages.specs.Page.{AreOfPage, HasRules, IsPage, text_of};
+ghost use Rattle.graph_pages.specs.Program.{IsPageText};
 ghost use Rattle.graph_pages.specs.Stop.{StopsUnless};
 
 mod source;
 
 use crate::stop::Stop;
 use crate::words::kind_of;
+use json::{Reader, Scratch};
 use rule_tables::{Goal, Outcome, ReadFault, Rules};
 use search_context::context::{Edge, Node, Reply};
 use search_context::path::PathKind;
-pub(crate) use source::Source;
+use source::Source;
 use std::alloc::Global;
 
 /// What is said of a goal, with the graph that is to show it.
@@ -31,33 +34,55 @@ pub(crate) struct Claims {
     pub(crate) all: Vec<Claim>,
 }
 
-/// Reads data as `--json` writes it: the members of each object in the same order, and none beside them. `BadData` tells
-/// before which byte of the text something else was found, and `Memory` that memory is out.
-pub(crate) fn read_claims(alloc: Global, source: &mut Source<'_>) -> Result<Claims, Stop>
+/// The page that this text is. It is bad data if it is not UTF-8.
+pub(crate) fn claims_of_text(alloc: Global, bytes: &[u8]) -> Result<Claims, Stop>
+    ensures read { IfOk result
+        (λ claims. IsPage (tokens bytes.now) claims.rules (map plain_claim claims.all.items)) }
+    ensures refused { IfErr result (StopsUnless (IsPageText bytes.now)) }
+{
+    let Ok(text) = std::str::from_utf8(bytes) else {
+        return Err(Stop::BadData(0));
+    };
+    let mut scratch = Scratch::new(alloc);
+    let mut source = Source::new(Reader::new(text, &mut scratch)?);
+    read_claims(alloc, &mut source)
+}
+
+// Reads data as `--json` writes it: the members of each object in the same order, and none beside them. `BadData` tells
+// before which byte of the text something else was found, and `Memory` that memory is out.
+fn read_claims(alloc: Global, source: &mut Source<'_>) -> Result<Claims, Stop>
     ensures read { IfOk result
         (λ claims. IsPage (left_in source.old) claims.rules (map plain_claim claims.all.items)) }
     ensures refused { IfErr result (StopsUnless (AreOfPage (left_in source.old))) }
 {
-    source.begin_object()?;
-    source.key("rules")?;
-    let text = read_lines(alloc, source)?;
-    let rules = rules_of(alloc, source, text.as_slice())?;
-    source.key("answers")?;
+    let rules = read_rules(alloc, source)?;
     let all = read_answers(alloc, source, &rules)?;
-    source.end_object()?;
     source.end()?;
     Ok(Claims { rules, all })
+}
+
+// The beginning of the page, with the rules that its lines make.
+fn read_rules(alloc: Global, source: &mut Source<'_>) -> Result<Rules, Stop>
+    ensures read { IfOk result (λ rules. HasRules (left_in source.old) rules (left_in source.new)) }
+    ensures refused { IfErr result (StopsUnless ((rules : SpecRules) × (rest : List SpecToken)
+        × HasRules (left_in source.old) rules rest)) }
+{
+    source.begin_object()?;
+    let text = read_lines(alloc, source)?;
+    rules_of(alloc, source, text.as_slice())
 }
 
 // The lines of rules, which stand in an array.
 fn read_lines(alloc: Global, source: &mut Source<'_>) -> Result<Vec<u8>, Stop>
     ensures spelled { IfOk result (λ text. (lines : List (List ℕ)) × (text.items ≡ text_of lines)
-        × (left_in source.old ≡ array_tokens string_tokens lines (left_in source.new))) }
+        × (left_in source.old ≡ member_tokens (codes "rules") (array_tokens string_tokens) lines
+        (left_in source.new))) }
     ensures refused { IfErr result
-        (StopsUnless (Spells (λ _. ⊤) (array_tokens string_tokens) (left_in source.old))) }
+        (StopsUnless (Spells (λ _. ⊤) (member_tokens (codes "rules") (array_tokens string_tokens))
+        (left_in source.old))) }
 {
     let mut text = Vec::new(alloc);
-    source.begin_array()?;
+    source.begin_array_at("rules")?;
     for _ in 0..u64::MAX {
         if source.is_end_of_array() {
             return Ok(text);
@@ -83,14 +108,15 @@ fn rules_of(alloc: Global, source: &Source<'_>, text: &[u8]) -> Result<Rules, St
 
 fn read_answers(alloc: Global, source: &mut Source<'_>, rules: &Rules) -> Result<Vec<Claim>, Stop>
     ensures spelled { IfOk result (λ claims. left_in source.old
-        ≡ array_tokens (claim_tokens (names_of rules.now)) (map plain_claim claims.items) (left_in source.new)) }
+        ≡ member_tokens (codes "answers") (array_tokens (claim_tokens (names_of rules.now)))
+        (map plain_claim claims.items) (left_in source.new)) }
     ensures named { IfOk result
         (λ claims. All (IsClaim (names_of rules.now)) (map plain_claim claims.items)) }
     ensures refused { IfErr result (StopsUnless (Spells (All (IsClaim (names_of rules.now)))
-        (array_tokens (claim_tokens (names_of rules.now))) (left_in source.old))) }
+        (member_tokens (codes "answers") (array_tokens (claim_tokens (names_of rules.now)))) (left_in source.old))) }
 {
     let mut claims = Vec::new(alloc);
-    source.begin_array()?;
+    source.begin_array_at("answers")?;
     for _ in 0..u64::MAX {
         if source.is_end_of_array() {
             return Ok(claims);
@@ -126,11 +152,8 @@ fn read_members(alloc: Global, source: &mut Source<'_>, rules: &Rules) -> Result
         (Spells (IsClaim (names_of rules.now)) (claim_tokens (names_of rules.now)) (left_in source.old))) }
 {
     source.begin_object()?;
-    source.key("goal")?;
     let goal = read_goal(source, rules)?;
-    source.key("verdict")?;
-    let outcome = read_outcome(source)?;
-    source.key("nodes")?;
+    let outcome = read_outcome(source, "verdict")?;
     let nodes = read_nodes(alloc, source, rules)?;
     source.end_object()?;
     Ok(Claim {
@@ -146,14 +169,15 @@ fn read_nodes(
     rules: &Rules,
 ) -> Result<Vec<Node<Goal, Outcome>>, Stop>
     ensures spelled { IfOk result (λ nodes. left_in source.old
-        ≡ array_tokens (node_tokens (names_of rules.now)) (map plain_node nodes.items) (left_in source.new)) }
+        ≡ member_tokens (codes "nodes") (array_tokens (node_tokens (names_of rules.now)))
+        (map plain_node nodes.items) (left_in source.new)) }
     ensures named { IfOk result
         (λ nodes. All (IsNode (names_of rules.now)) (map plain_node nodes.items)) }
     ensures refused { IfErr result (StopsUnless (Spells (All (IsNode (names_of rules.now)))
-        (array_tokens (node_tokens (names_of rules.now))) (left_in source.old))) }
+        (member_tokens (codes "nodes") (array_tokens (node_tokens (names_of rules.now)))) (left_in source.old))) }
 {
     let mut nodes = Vec::new(alloc);
-    source.begin_array()?;
+    source.begin_array_at("nodes")?;
     for _ in 0..u64::MAX {
         if source.is_end_of_array() {
             return Ok(nodes);
@@ -175,13 +199,9 @@ fn read_node(
         (Spells (IsNode (names_of rules.now)) (node_tokens (names_of rules.now)) (left_in source.old))) }
 {
     source.begin_object()?;
-    source.key("goal")?;
     let input = read_goal(source, rules)?;
-    source.key("replies")?;
     let replies = read_replies(alloc, source)?;
-    source.key("result")?;
-    let result = read_outcome(source)?;
-    source.key("edges")?;
+    let result = read_outcome(source, "result")?;
     let edges = read_edges(alloc, source, rules)?;
     source.end_object()?;
     Ok(Node {
@@ -194,12 +214,12 @@ fn read_node(
 
 fn read_replies(alloc: Global, source: &mut Source<'_>) -> Result<Vec<Reply<Outcome>>, Stop>
     ensures spelled { IfOk result (λ replies. left_in source.old
-        ≡ array_tokens reply_tokens replies.items (left_in source.new)) }
+        ≡ member_tokens (codes "replies") (array_tokens reply_tokens) replies.items (left_in source.new)) }
     ensures refused { IfErr result (StopsUnless
-        (Spells (λ _. ⊤) (array_tokens reply_tokens) (left_in source.old))) }
+        (Spells (λ _. ⊤) (member_tokens (codes "replies") (array_tokens reply_tokens)) (left_in source.old))) }
 {
     let mut replies = Vec::new(alloc);
-    source.begin_array()?;
+    source.begin_array_at("replies")?;
     for _ in 0..u64::MAX {
         if source.is_end_of_array() {
             return Ok(replies);
@@ -225,13 +245,14 @@ fn read_edges(
     rules: &Rules,
 ) -> Result<Vec<Edge<Goal>>, Stop>
     ensures spelled { IfOk result (λ edges. left_in source.old
-        ≡ array_tokens (edge_tokens (names_of rules.now)) edges.items (left_in source.new)) }
+        ≡ member_tokens (codes "edges") (array_tokens (edge_tokens (names_of rules.now))) edges.items
+        (left_in source.new)) }
     ensures named { IfOk result (λ edges. All (IsEdge (names_of rules.now)) edges.items) }
     ensures refused { IfErr result (StopsUnless (Spells (All (IsEdge (names_of rules.now)))
-        (array_tokens (edge_tokens (names_of rules.now))) (left_in source.old))) }
+        (member_tokens (codes "edges") (array_tokens (edge_tokens (names_of rules.now)))) (left_in source.old))) }
 {
     let mut edges = Vec::new(alloc);
-    source.begin_array()?;
+    source.begin_array_at("edges")?;
     for _ in 0..u64::MAX {
         if source.is_end_of_array() {
             return Ok(edges);
@@ -249,12 +270,9 @@ fn read_edge(source: &mut Source<'_>, rules: &Rules) -> Result<Edge<Goal>, Stop>
         (Spells (IsEdge (names_of rules.now)) (edge_tokens (names_of rules.now)) (left_in source.old))) }
 {
     source.begin_object()?;
-    source.key("kind")?;
     let kind = read_kind(source)?;
-    source.key("goal")?;
     let input = read_goal(source, rules)?;
-    source.key("target")?;
-    let target = source.number()?;
+    let target = source.number_at("target")?;
     source.end_object()?;
     Ok(Edge {
         kind,
@@ -264,34 +282,35 @@ fn read_edge(source: &mut Source<'_>, rules: &Rules) -> Result<Edge<Goal>, Stop>
 }
 
 fn read_kind(source: &mut Source<'_>) -> Result<PathKind, Stop>
-    ensures spelled { IfOk result
-        (λ kind. left_in source.old ≡ kind_tokens kind (left_in source.new)) }
-    ensures refused { IfErr result
-        (StopsUnless (Spells (λ _. ⊤) kind_tokens (left_in source.old))) }
+    ensures spelled { IfOk result (λ kind.
+        left_in source.old ≡ member_tokens (codes "kind") kind_tokens kind (left_in source.new)) }
+    ensures refused { IfErr result (StopsUnless
+        (Spells (λ _. ⊤) (member_tokens (codes "kind") kind_tokens) (left_in source.old))) }
 {
-    let letter = source.string()?;
+    let letter = source.string_at("kind")?;
     kind_of(letter).ok_or(source.fault())
 }
 
 // A goal by its name, which the rules have to mention.
 fn read_goal(source: &mut Source<'_>, rules: &Rules) -> Result<Goal, Stop>
     ensures spelled { IfOk result (λ goal. left_in source.old
-        ≡ goal_tokens (names_of rules.now) goal (left_in source.new)) }
+        ≡ member_tokens (codes "goal") (goal_tokens (names_of rules.now)) goal (left_in source.new)) }
     ensures named { IfOk result (IsNamed (names_of rules.now)) }
-    ensures refused { IfErr result (StopsUnless
-        (Spells (IsNamed (names_of rules.now)) (goal_tokens (names_of rules.now)) (left_in source.old))) }
+    ensures refused { IfErr result (StopsUnless (Spells (IsNamed (names_of rules.now))
+        (member_tokens (codes "goal") (goal_tokens (names_of rules.now))) (left_in source.old))) }
 {
-    let name = source.string()?;
+    let name = source.string_at("goal")?;
     rules.goal(name.as_bytes()).ok_or(source.fault())
 }
 
-fn read_outcome(source: &mut Source<'_>) -> Result<Outcome, Stop>
-    ensures spelled { IfOk result
-        (λ outcome. left_in source.old ≡ outcome_tokens outcome (left_in source.new)) }
-    ensures refused { IfErr result
-        (StopsUnless (Spells (λ _. ⊤) outcome_tokens (left_in source.old))) }
+// An outcome, under this key.
+fn read_outcome(source: &mut Source<'_>, wanted: &str) -> Result<Outcome, Stop>
+    ensures spelled { IfOk result (λ outcome.
+        left_in source.old ≡ member_tokens wanted.now outcome_tokens outcome (left_in source.new)) }
+    ensures refused { IfErr result (StopsUnless
+        (Spells (λ _. ⊤) (member_tokens wanted.now outcome_tokens) (left_in source.old))) }
 {
-    let word = source.string()?;
+    let word = source.string_at(wanted)?;
     outcome_of(word).ok_or(source.fault())
 }
 

@@ -27,7 +27,12 @@ fn write_cut<W: Write>(out: &mut W, rules: &Rules, cut: Cut) -> io::Result<()> {
     let asked = name_of(rules, cut.asked);
     let by = name_of(rules, cut.by);
     write!(out, "  cut off at {letter}:{asked} of {by}")?;
-    match cut.cause {
+    write_cause(out, asked, cut.cause)
+}
+
+// Why it was cut off, at the end of the line.
+fn write_cause<W: Write>(out: &mut W, asked: &str, cause: Cause) -> io::Result<()> {
+    match cause {
         Cause::Depth { or_runs: false } => writeln!(out, ", which had no depth left"),
         Cause::Depth { or_runs: true } => {
             writeln!(

@@ -28,18 +28,34 @@ pub(crate) fn write_text<W: Write>(
     let Ok(lines) = plan(alloc, nodes, most) else {
         return Err(io::Error::from(io::ErrorKind::OutOfMemory));
     };
+    let shown = write_lines(out, rules, nodes, lines.as_slice())?;
+    write_left(out, nodes.len().saturating_sub(shown), most)
+}
+
+// Writes the lines. The answer is how many of them show a node.
+fn write_lines<W: Write>(
+    out: &mut W,
+    rules: &Rules,
+    nodes: &[Node<Goal, Outcome>],
+    lines: &[Line],
+) -> io::Result<usize> {
     let mut shown: usize = 0;
-    for line in &lines {
+    for line in lines {
         if let Line::Shown { .. } = *line {
             shown = shown.saturating_add(1);
         }
         write_line(out, rules, nodes, *line)?;
     }
-    let left = nodes.len().saturating_sub(shown);
+    Ok(shown)
+}
+
+// The last line, if goals were left out.
+fn write_left<W: Write>(out: &mut W, left: usize, most: usize) -> io::Result<()> {
     if left > 0 {
-        writeln!(out, "goals left out: {left}, which lie deeper than {most}")?;
+        writeln!(out, "goals left out: {left}, which lie deeper than {most}")
+    } else {
+        Ok(())
     }
-    Ok(())
 }
 
 fn write_line<W: Write>(
@@ -99,19 +115,30 @@ fn write_node<W: Write>(
     level: usize,
     number: usize,
 ) -> io::Result<()> {
-    write_indentation(out, level)?;
-    if number > 0 {
-        write!(out, "{number} ")?;
-    }
-    let name = name_of(rules, node.input);
-    let said = says(node.result);
-    write!(out, "{name} {said}")?;
+    write_shown(out, rules, node, level, number)?;
     let candidates = rules.candidates(node.input);
     if node.result == Outcome::Yes {
         write_proof(out, rules, node, &candidates)
     } else {
         write_refutation(out, rules, node, &candidates, level)
     }
+}
+
+// The beginning of the line of a node that is shown.
+fn write_shown<W: Write>(
+    out: &mut W,
+    rules: &Rules,
+    node: &Node<Goal, Outcome>,
+    level: usize,
+    number: usize,
+) -> io::Result<()> {
+    write_indentation(out, level)?;
+    if number > 0 {
+        write!(out, "{number} ")?;
+    }
+    let name = name_of(rules, node.input);
+    let said = says(node.result);
+    write!(out, "{name} {said}")
 }
 
 // The rule by which the goal holds.
@@ -146,18 +173,26 @@ fn write_refutation<W: Write>(
             break;
         };
         let end = end_of(start, &candidate);
-        write_indentation(out, level.saturating_add(1))?;
-        out.write_all(b"rule ")?;
-        write_rule(out, rules, node.input, &candidate)?;
-        write_failure(
-            out,
-            rules,
-            &candidate,
-            node.replies.get(start..end).unwrap_or(&[]),
-        )?;
+        let replies = node.replies.get(start..end).unwrap_or(&[]);
+        write_failing(out, rules, node.input, &candidate, replies, level)?;
         start = next_start(end);
     }
     Ok(())
+}
+
+// A rule that fails, one level below its goal.
+fn write_failing<W: Write>(
+    out: &mut W,
+    rules: &Rules,
+    goal: Goal,
+    candidate: &Candidate<'_>,
+    replies: &[Reply<Outcome>],
+    level: usize,
+) -> io::Result<()> {
+    write_indentation(out, level.saturating_add(1))?;
+    out.write_all(b"rule ")?;
+    write_rule(out, rules, goal, candidate)?;
+    write_failure(out, rules, candidate, replies)
 }
 
 fn write_failure<W: Write>(
@@ -192,10 +227,14 @@ fn write_again<W: Write>(
     if number > 0 {
         write!(out, ", as {number}")?;
     }
-    match (closes, node.result) {
-        (true, Outcome::Yes) => out.write_all(b": the cycle is coinductive\n"),
-        (true, _) => out.write_all(b": the cycle is inductive\n"),
-        (false, _) => out.write_all(b"\n"),
+    out.write_all(end_of_again(closes, node.result))
+}
+
+fn end_of_again(closes: bool, outcome: Outcome) -> &'static [u8] {
+    match (closes, outcome) {
+        (true, Outcome::Yes) => b": the cycle is coinductive\n",
+        (true, _) => b": the cycle is inductive\n",
+        (false, _) => b"\n",
     }
 }
 

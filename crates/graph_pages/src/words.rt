@@ -58,9 +58,18 @@ pub(crate) fn write_rule<W: Write>(
     let name = name_of(rules, goal);
     write!(out, "{mark}{name} =")?;
     for asking in candidate.questions() {
-        let letter = letter(asking.kind);
-        let asked = name_of(rules, asking.goal);
-        write!(out, " {letter}:{asked}")?;
+        write_asking(out, rules, asking.kind, asking.goal)?;
     }
     Ok(())
+}
+
+fn write_asking<W: Write>(
+    out: &mut W,
+    rules: &Rules,
+    kind: PathKind,
+    goal: Goal,
+) -> io::Result<()> {
+    let letter = letter(kind);
+    let asked = name_of(rules, goal);
+    write!(out, " {letter}:{asked}")
 }

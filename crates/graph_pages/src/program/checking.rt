@@ -7,10 +7,9 @@ ghost use Rattle.graph_pages.specs.Told.{AreJudged, IsJudged, line_said};
 
 use crate::answer::accepts;
 use crate::progress::Progress;
-use crate::reading::{Claim, Claims, Source, read_claims};
+use crate::reading::{Claim, Claims, claims_of_text};
 use crate::stop::Stop;
 use delegate_parts::Builder;
-use json::{Reader, Scratch};
 use line_texts::read_input;
 use rule_tables::delegate::Table;
 use rule_tables::{Goal, Outcome, Rules, TableDelegate};
@@ -32,12 +31,7 @@ pub(super) fn check_input<R: Read, W: Write, P: Progress>(
         (W.contents out.old) (W.contents out.new)) }
 {
     let bytes = read_input(alloc, input)?;
-    let Ok(text) = std::str::from_utf8(bytes.as_slice()) else {
-        return Err(Stop::BadData(0));
-    };
-    let mut scratch = Scratch::new(alloc);
-    let mut source = Source::new(Reader::new(text, &mut scratch)?);
-    let Claims { rules, all } = read_claims(alloc, &mut source)?;
+    let Claims { rules, all } = claims_of_text(alloc, bytes.as_slice())?;
     check_claims::<Table<&Rules>, TableDelegate<'_, 8, 1>, W, P>(
         alloc,
         Table { lender: &rules },

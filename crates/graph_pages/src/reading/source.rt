@@ -1,10 +1,10 @@
 //! The tokens of a text, each of which has to be the wanted one.
 
-ghost use Rattle.std.specs.Prelude.{◌≡◌, ◌≢◌, ◌∷◌, ◌<◌, ◌^◌, ℕ, [], decimal, IfErr, IfOk, IfNone, IfSome, OnOk, ⊤};
+ghost use Rattle.std.specs.Prelude.{◌≡◌, ◌≢◌, ◌∷◌, ◌<◌, ◌^◌, ℕ, [], decimal, IfErr, IfOk, IfNone, IfSome, List, OnOk, ⊤};
 ghost use Rattle.std.specs.Bool.{MatchBool};
 ghost use Rattle.json.specs.Print.{IsNumber};
-ghost use Rattle.json.specs.Token.{begin_array, begin_object, end_array, end_object, key, number};
-ghost use Rattle.graph_pages.specs.Data.{StandsFirst, IsTarget, left_in, number_tokens, Spells, string_tokens};
+ghost use Rattle.json.specs.Token.{Token as SpecToken, begin_array, begin_object, end_array, end_object, key, number};
+ghost use Rattle.graph_pages.specs.Data.{StandsFirst, IsTarget, left_in, member_tokens, number_tokens, Spells, string_tokens};
 ghost use Rattle.graph_pages.specs.Stop.{IsBadData, StopsUnless};
 
 use crate::stop::Stop;
@@ -50,10 +50,14 @@ impl<'a> Source<'a> {
         }
     }
 
-    pub(crate) fn begin_array(&mut self) -> Result<(), Stop>
-        ensures read { OnOk result (left_in self.old ≡ begin_array ∷ left_in self.new) }
-        ensures refused { IfErr result (StopsUnless (StandsFirst begin_array (left_in self.old))) }
+    /// The key has to be this one, and its value an array.
+    pub(crate) fn begin_array_at(&mut self, wanted: &str) -> Result<(), Stop>
+        ensures read { OnOk result
+            (left_in self.old ≡ key wanted.now ∷ begin_array ∷ left_in self.new) }
+        ensures refused { IfErr result (StopsUnless ((rest : List SpecToken) ×
+            (left_in self.old ≡ key wanted.now ∷ begin_array ∷ rest))) }
     {
+        self.key(wanted)?;
         match self.reader.next() {
             Some(Token::BeginArray) => Ok(()),
             _ => Err(self.fault()),
@@ -69,7 +73,7 @@ impl<'a> Source<'a> {
     }
 
     /// The key has to be this one.
-    pub(crate) fn key(&mut self, wanted: &str) -> Result<(), Stop>
+    fn key(&mut self, wanted: &str) -> Result<(), Stop>
         ensures read { OnOk result (left_in self.old ≡ key wanted.now ∷ left_in self.new) }
         ensures refused { IfErr result (StopsUnless (
             StandsFirst (key wanted.now) (left_in self.old))) }
@@ -92,23 +96,37 @@ impl<'a> Source<'a> {
         }
     }
 
-    /// A number without sign, point or exponent.
-    pub(crate) fn number(&mut self) -> Result<usize, Stop>
-        ensures read { IfOk result (λ n. left_in self.old ≡ number_tokens n (left_in self.new)) }
-        ensures refused { IfErr result
-            (StopsUnless (Spells IsTarget number_tokens (left_in self.old))) }
+    /// The key has to be this one, and its value a string.
+    pub(crate) fn string_at(&mut self, wanted: &str) -> Result<&'a str, Stop>
+        ensures read { IfOk result (λ text.
+            left_in self.old ≡ member_tokens wanted.now string_tokens text.now (left_in self.new)) }
+        ensures refused { IfErr result (StopsUnless
+            (Spells (λ _. ⊤) (member_tokens wanted.now string_tokens) (left_in self.old))) }
     {
+        self.key(wanted)?;
+        self.string()
+    }
+
+    /// The key has to be this one, and its value a number without sign, point or exponent.
+    pub(crate) fn number_at(&mut self, wanted: &str) -> Result<usize, Stop>
+        ensures read { IfOk result (λ n.
+            left_in self.old ≡ member_tokens wanted.now number_tokens n (left_in self.new)) }
+        ensures refused { IfErr result (StopsUnless
+            (Spells IsTarget (member_tokens wanted.now number_tokens) (left_in self.old))) }
+    {
+        self.key(wanted)?;
         match self.reader.next() {
             Some(Token::Number(text)) => number_of(text).ok_or(self.fault()),
             _ => Err(self.fault()),
         }
     }
 
-    /// Nothing may follow.
+    /// The end of an object, after which nothing may follow.
     pub(crate) fn end(&mut self) -> Result<(), Stop>
-        ensures read { OnOk result (left_in self.old ≡ []) }
-        ensures refused { IfErr result (StopsUnless (left_in self.old ≡ [])) }
+        ensures read { OnOk result (left_in self.old ≡ end_object ∷ []) }
+        ensures refused { IfErr result (StopsUnless (left_in self.old ≡ end_object ∷ [])) }
     {
+        self.end_object()?;
         match self.reader.next() {
             None => Ok(()),
             Some(_) => Err(self.fault()),

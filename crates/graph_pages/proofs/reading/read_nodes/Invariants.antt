@@ -1,5 +1,5 @@
-use Rattle.std.proofs.Common.{◌≡◌, ◌∷◌, All, map}
-use Rattle.json.specs.Token.{begin_array}
+use Rattle.std.proofs.Common.{◌≡◌, ◌∷◌, All, map, codes}
+use Rattle.json.specs.Token.{begin_array, key}
 use Rattle.graph_pages.specs.Below.{names_of}
 use Rattle.graph_pages.specs.Data.{IsNode, left_in, list_tokens, node_tokens, plain_node}
 use Rattle.graph_pages.proofs.reading.read_nodes.Given as goal
@@ -7,6 +7,6 @@ use Rattle.graph_pages.proofs.reading.read_nodes.Given as goal
 -- the nodes so far are read
 abbrev pub invariant-loop : goal.invariant-loop
 invariant-loop l = record {
-  spelled : left_in l.fn.source ≡ begin_array ∷ list_tokens (node_tokens (names_of l.rules)) (map plain_node l.nodes.items) (left_in l.source);
+  spelled : left_in l.fn.source ≡ key (codes "nodes") ∷ begin_array ∷ list_tokens (node_tokens (names_of l.rules)) (map plain_node l.nodes.items) (left_in l.source);
   named : All (IsNode (names_of l.rules)) (map plain_node l.nodes.items);
 }

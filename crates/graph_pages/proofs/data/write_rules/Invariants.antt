@@ -2,7 +2,7 @@ use Rattle.std.proofs.Common.{◌∷◌, codes, length, List, take, ℕ}
 use Rattle.json.specs.Token.{begin_array, begin_object, key}
 use Rattle.line_texts.specs.Lines.{lines_of}
 use Rattle.graph_pages.proofs.Lines.{AreSaid}
-use Rattle.graph_pages.proofs.data.write_start.Given as goal
+use Rattle.graph_pages.proofs.data.write_rules.Given as goal
 use Rattle.graph_pages.specs.Data.{list_tokens, PutsTokens, string_tokens}
 
 -- what so many lines say is written
