@@ -209,8 +209,3 @@ where
 fn is_definite(outcome: Outcome) -> bool {
     matches!(outcome, Outcome::Yes | Outcome::No)
 }
-
-/// Whether the result is yes or no.
-fn is_definite(outcome: Outcome) -> bool {
-    matches!(outcome, Outcome::Yes | Outcome::No)
-}
