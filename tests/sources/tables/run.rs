@@ -1,4 +1,4 @@
-//! The runs that a program of tests reads. One begins with a line that has its sort, its name and its options, and its
+//! A run of the text in `runs`. It begins with a line that has its sort, its name and its options, and its
 //! answers follow a line `expect 0`.
 
 use std::test::Fail;
