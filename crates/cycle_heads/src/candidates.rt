@@ -5,16 +5,16 @@ ghost use Rattle.std.specs.BTreeMap.{insert_entry};
 
 use crate::by_depth::{at_place, place_near, place_of};
 use crate::depth::StackDepth;
+use crate::short_list::ShortList;
 use crate::usages::HeadUsages;
 use path_kinds::memory::NoMemory;
-use smallvec::SmallVec;
 use std::alloc::Global;
 use std::marker::Model;
 
 /// How often a candidate used each goal on the stack, by depth. Ports `CandidateHeadUsages`.
 #[derive(Drop)]
 pub struct CandidateHeadUsages {
-    usages: SmallVec<(StackDepth, HeadUsages), 1>,
+    usages: ShortList<(StackDepth, HeadUsages)>,
 }
 
 impl Model for CandidateHeadUsages {
@@ -23,9 +23,9 @@ impl Model for CandidateHeadUsages {
 
     ghost Value = { UsagesByHead };
 
-    ghost view = { λ c. c.usages.items };
+    ghost view = { λ c. c.usages };
 
-    ghost invariant = { λ c. IsRising c.usages.items };
+    ghost invariant = { λ c. IsRising c.usages };
 }
 
 impl CandidateHeadUsages {
@@ -34,7 +34,7 @@ impl CandidateHeadUsages {
         ensures { result ≡ [] }
     {
         CandidateHeadUsages {
-            usages: SmallVec::new(alloc),
+            usages: ShortList::new(alloc),
         }
     }
 
@@ -49,7 +49,7 @@ impl CandidateHeadUsages {
     pub fn is_empty(&self) -> bool
         ensures { IsTrue result ↔ (self.now ≡ []) }
     {
-        self.usages.is_empty()
+        self.as_slice().is_empty()
     }
 
     /// The usages that are recorded for the head.
@@ -75,7 +75,7 @@ impl CandidateHeadUsages {
         ensures err { OnErr result (self.new ≡ self.old) }
         ensures known { IsSome (at_depth self.old head) → IsOk result }
     {
-        let last = self.usages.len();
+        let last = self.as_slice().len();
         self.note_usages_near(last, head, usages)?;
         Ok(())
     }
@@ -129,8 +129,9 @@ impl CandidateHeadUsages {
         requires { place_of self.old head ≡ Ok index }
         ensures { self.new ≡ with_noted self.old head usages }
     {
-        let known = &mut self.usages.get_mut(index).unwrap().1;
+        let mut known = self.usages.as_slice()[index].1;
         known.add_usages_from_nested(usages);
+        self.usages.set(index, (head, known));
     }
 
     /// Adds the counts of `other`, head by head. Where one of the two is empty, that takes no memory.
@@ -170,7 +171,7 @@ impl CandidateHeadUsages {
         self.put(head, place, sum)
     }
 
-    // Makes these the usages of the head, whose place is given. Most new heads come last, where none is moved.
+    // Makes these the usages of the head, whose place is given.
     fn put(
         &mut self,
         head: StackDepth,
@@ -183,8 +184,7 @@ impl CandidateHeadUsages {
         ensures known { IsSome (at_depth self.old head) → IsOk result }
     {
         match place {
-            Ok(index) => *self.usages.get_mut(index).unwrap() = (head, usages),
-            Err(index) if index == self.usages.len() => self.usages.push((head, usages))?,
+            Ok(index) => self.usages.set(index, (head, usages)),
             Err(index) => self.usages.insert(index, (head, usages))?,
         }
         Ok(())

@@ -6,16 +6,13 @@ ghost use Rattle.cycle_heads.specs.Below.{PathKind, PathsToNested};
 
 use crate::by_depth::{at_place, place_near, place_of};
 use crate::depth::StackDepth;
+use crate::short_list::ShortList;
 use crate::usages::HeadUsages;
 use bitflags::Flags;
 use path_kinds::memory::NoMemory;
 use path_kinds::path::PathsToNested;
-use smallvec::SmallVec;
 use std::alloc::Global;
 use std::marker::Model;
-
-/// So many more heads a list has room for at least once one does not suffice.
-const A_FEW: usize = 7;
 
 /// How an answer rests on a goal on the stack. Ports `CycleHead`.
 #[derive(Clone, Copy, Debug, Default)]
@@ -32,7 +29,7 @@ pub struct CycleHead {
 /// searched by halves; a new head in the middle moves those above it.
 #[derive(Drop)]
 pub struct CycleHeads {
-    heads: SmallVec<(StackDepth, CycleHead), 1>,
+    heads: ShortList<(StackDepth, CycleHead)>,
 }
 
 impl Model for CycleHeads {
@@ -40,9 +37,9 @@ impl Model for CycleHeads {
 
     ghost Value = { Heads };
 
-    ghost view = { λ h. h.heads.items };
+    ghost view = { λ h. h.heads };
 
-    ghost invariant = { λ h. IsRising h.heads.items };
+    ghost invariant = { λ h. IsRising h.heads };
 }
 
 impl CycleHeads {
@@ -51,7 +48,7 @@ impl CycleHeads {
         ensures { result ≡ [] }
     {
         CycleHeads {
-            heads: SmallVec::new(alloc),
+            heads: ShortList::new(alloc),
         }
     }
 
@@ -59,7 +56,7 @@ impl CycleHeads {
     pub fn is_empty(&self) -> bool
         ensures { IsTrue result ↔ (self.now ≡ []) }
     {
-        self.heads.is_empty()
+        self.as_slice().is_empty()
     }
 
     /// The head of the greatest depth, with its depth. Ports `CycleHeads::highest_cycle_head`.
@@ -110,11 +107,7 @@ impl CycleHeads {
     pub fn make_room(&mut self, count: usize) -> Result<(), NoMemory>
         ensures { self.new ≡ self.old }
     {
-        // Most often there is room.
-        if let Some(more @ 1..) = count.checked_sub(self.heads.len()) {
-            self.heads.reserve(more)?;
-        }
-        Ok(())
+        self.heads.make_room(count)
     }
 
     /// Records a head. One that is there already keeps its paths and counts at most one more usage
@@ -130,7 +123,7 @@ impl CycleHeads {
         ensures err { OnErr result (self.new ≡ self.old) }
         ensures known { IsSome (at_depth self.old head) → IsOk result }
     {
-        let last = self.heads.len();
+        let last = self.as_slice().len();
         self.insert_near(last, head, paths, usages)?;
         Ok(())
     }
@@ -174,43 +167,12 @@ impl CycleHeads {
         ensures ok { OnOk result (self.new ≡ with_head self.old depth paths usages) }
         ensures err { OnErr result (self.new ≡ self.old) }
     {
-        self.make_room_for_one()?;
-        self.put(index, depth, paths, usages)
-    }
-
-    // Puts it in. Most come last, where none is moved.
-    fn put(
-        &mut self,
-        index: usize,
-        depth: StackDepth,
-        paths: PathsToNested,
-        usages: HeadUsages,
-    ) -> Result<usize, NoMemory>
-        requires { place_of self.old depth ≡ Err index }
-        ensures ok { OnOk result (self.new ≡ with_head self.old depth paths usages) }
-        ensures err { OnErr result (self.new ≡ self.old) }
-    {
         let new = CycleHead {
             paths_to_head: paths,
             usages,
         };
-        if index == self.heads.len() {
-            self.heads.push((depth, new))?;
-        } else {
-            self.heads.insert(index, (depth, new))?;
-        }
+        self.heads.insert(index, (depth, new))?;
         Ok(index.saturating_add(1))
-    }
-
-    // Makes room for one more head, and where there is none, for a few more with it: what rests on two goals soon rests on
-    // others, and a move of the list takes longer than most heads do.
-    fn make_room_for_one(&mut self) -> Result<(), NoMemory>
-        ensures { self.new ≡ self.old }
-    {
-        if self.heads.len() == self.heads.capacity() {
-            self.heads.reserve(A_FEW)?;
-        }
-        Ok(())
     }
 
     // Joins paths and usages to the head at the place, which has this depth.
@@ -218,9 +180,10 @@ impl CycleHeads {
         requires { place_of self.old depth ≡ Ok index }
         ensures { self.new ≡ with_head self.old depth paths usages }
     {
-        let known = &mut self.heads.get_mut(index).unwrap().1;
+        let mut known = self.heads.as_slice()[index].1;
         known.paths_to_head.insert(paths);
         known.usages.add_usages_from_nested(usages);
+        self.heads.set(index, (depth, known));
     }
 
     // Makes the head at the place, which has this depth, another one.
@@ -228,7 +191,7 @@ impl CycleHeads {
         requires { place_of self.old depth ≡ Ok index }
         ensures { self.new ≡ replace_head self.old depth head }
     {
-        *self.heads.get_mut(index).unwrap() = (depth, head);
+        self.heads.set(index, (depth, head));
     }
 
     /// Takes away usages that were counted for the head. Ports `CycleHeads::ignore_usages`.

@@ -12,4 +12,5 @@ mod by_depth;
 pub mod candidates;
 pub mod depth;
 pub mod heads;
+mod short_list;
 pub mod usages;

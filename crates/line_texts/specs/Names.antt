@@ -1,10 +1,7 @@
 -- Names and their numbers.
-use Rattle.std.specs.Prelude.{ℕ, Bool, List, [], ◌∷◌, ◌++◌, map, take, if◌then◌else◌}
-use Rattle.std.specs.List.{list_any}
+use Rattle.std.specs.Prelude.{ℕ, ◌≡◌, Bool, List, [], ◌∷◌, ◌++◌, Option, take, if◌then◌else◌}
+use Rattle.std.specs.List.{IsDistinct, list_any, position}
 use Rattle.std.specs.Str.{bytes_eq}
-use Rattle.std.specs.HashSet.{HashSet}
-use Rattle.std.specs.declared.hash.FoldHasher.{FoldHasher}
-use Rattle.std.specs.declared.hash.BuildHasherDefault.{BuildHasherDefault}
 use Rattle.line_texts.specs.declared.names.name.Name.{Name}
 
 -- the bytes of a name
@@ -15,9 +12,10 @@ text_of name = take name.length name.bytes
 abbrev pub same_name : Name → Name → Bool
 same_name x y = bytes_eq (text_of x) (text_of y)
 
--- the names of a set, in their order
-abbrev pub texts_of : HashSet Name (BuildHasherDefault FoldHasher) → List (List ℕ)
-texts_of names = map text_of names.keys
+-- no two names are the same, and each one's number is its place
+pub record AreNumbered (number : Name → Option ℕ) (names : List Name) : Type 0 where
+  pub agrees : (name : Name) → number name ≡ position (same_name name) names
+  pub distinct : IsDistinct same_name names
 
 -- the names with one more, unless it is there
 abbrev pub with_name : List (List ℕ) → List ℕ → List (List ℕ)

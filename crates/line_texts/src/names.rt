@@ -5,29 +5,29 @@ ghost use Rattle.line_texts.specs.Names.{with_name};
 
 mod name;
 
-use crate::names::name::{Asked, Name};
-use indexmap::IndexSet;
+use crate::names::name::{MOST, Name};
 use std::alloc::{AllocError, Global};
+use std::collections::HashMap;
 use std::marker::Model;
 
 /// Distinct names, each with a number: its place in the order in which they came.
 #[derive(Drop)]
 pub struct Names {
-    names: IndexSet<Name>,
+    names: Vec<Name>,
+    numbers: HashMap<Name, usize>,
 }
 
 impl Model for Names {
-    ghost use Rattle.std.specs.Prelude.{ℕ, List};
-    ghost use Rattle.std.specs.Str.{bytes_eq};
-    ghost use Rattle.indexmap.specs.IndexSet.{IsUnique};
+    ghost use Rattle.std.specs.Prelude.{ℕ, List, map};
+    ghost use Rattle.std.specs.HashMap as hash;
 
     ghost Value = { List (List ℕ) };
 
-    ghost use Rattle.line_texts.specs.Names.{texts_of, same_name};
+    ghost use Rattle.line_texts.specs.Names.{text_of, same_name, AreNumbered};
 
-    ghost view = { λ names. texts_of names.names };
+    ghost view = { λ names. map text_of names.names.items };
 
-    ghost invariant = { λ names. IsUnique same_name names.names };
+    ghost invariant = { λ names. AreNumbered (hash.get same_name names.numbers) names.names.items };
 }
 
 impl Names {
@@ -36,7 +36,8 @@ impl Names {
         ensures { result ≡ [] }
     {
         Names {
-            names: IndexSet::new(alloc),
+            names: Vec::new(alloc),
+            numbers: HashMap::new(alloc),
         }
     }
 
@@ -44,7 +45,14 @@ impl Names {
     pub fn number(&self, name: &[u8]) -> Option<usize>
         ensures { (n : ℕ) → (result ≡ Some n) ↔ (slice_get self.now n ≡ Some name.now) }
     {
-        self.names.get_index_of(Asked(name))
+        let numbers = &self.numbers;
+        if name.len() > MOST {
+            return None;
+        }
+        match numbers.get(&Name::new(name)) {
+            Some(number) => Some(*number),
+            None => None,
+        }
     }
 
     /// How many names there are.
@@ -58,7 +66,7 @@ impl Names {
     pub fn text(&self, number: usize) -> Option<&[u8]>
         ensures { option_copied result ≡ slice_get self.now number }
     {
-        self.names.get_index(number).map(|name| name.text())
+        self.names.get(number).map(|name| name.text())
     }
 
     /// The name's number, which is the next one where the name is new. A failure changes nothing.
@@ -71,7 +79,11 @@ impl Names {
         if let Some(number) = self.number(name) {
             return Ok(number);
         }
-        let (number, _) = self.names.insert_full(Name::new(name))?;
+        let number = self.names.len();
+        let name = Name::new(name);
+        self.names.reserve(1)?;
+        self.numbers.insert(name, number)?;
+        self.names.push_reserved(name);
         Ok(number)
     }
 }

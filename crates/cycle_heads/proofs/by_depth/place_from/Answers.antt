@@ -1,5 +1,4 @@
-use Rattle.std.proofs.Common.{rules, ◌≡◌, ℕ, ◌<◌, Some, sym, ◌∙◌, arith}
-use Rattle.std.proofs.lemmas.Bool.Decides.{nat_tests}
+use Rattle.std.proofs.Common.{rules, sym}
 use Rattle.std.proofs.lemmas.Option.{slice_get_past}
 use Rattle.cycle_heads.proofs.Places.{there, next_is_behind, next_is_place, none_is_gap}
 use Rattle.cycle_heads.proofs.by_depth.place_from.Goals as goal

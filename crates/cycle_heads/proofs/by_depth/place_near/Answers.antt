@@ -1,5 +1,4 @@
-use Rattle.std.proofs.Common.{rules, ◌≡◌, ℕ, ◌<◌, sym, arith}
-use Rattle.std.proofs.lemmas.Bool.Decides.{nat_tests}
+use Rattle.std.proofs.Common.{rules, sym}
 use Rattle.cycle_heads.proofs.Places.{below_guess, place_before}
 use Rattle.cycle_heads.proofs.by_depth.place_near.Goals as goal
 
