@@ -54,8 +54,8 @@ pub use Rattle.goal_changes.specs.declared.Next.TheVariants.{Finished, Step}
 pub use Rattle.run_records.specs.declared.runs.Received.{Received}
 pub use Rattle.run_records.specs.declared.runs.Run.{Run}
 pub use Rattle.goal_changes.specs.OpenGoal.{OpenGoal}
-pub use Rattle.search_moves.specs.Evaluations.{Awaits, ChangesCache, EndsWith, HasReply, HasRequest, IsNew, IsRight, IsRightFor}
-pub use Rattle.search_moves.specs.Evaluations.{IsRememberedWhere, IsRightNext, KeepsCache, LeadsTo, Requests, StopsWith}
+pub use Rattle.between_moves.specs.Evaluations.{Awaits, ChangesCache, EndsWith, HasReply, HasRequest, IsNew, IsRight, IsRightFor}
+pub use Rattle.between_moves.specs.Evaluations.{IsRememberedWhere, IsRightNext, KeepsCache, LeadsTo, Requests, StopsWith}
 pub use Rattle.search_rules.specs.Calls.{bound, Call, CallIsEnclosed, HadNoOverflow, IsCounted, limits, Outset, runs}
 pub use Rattle.search_rules.specs.Claims.{Decides, IsCaused, IsMemoryOrOrder, IsProved, IsRefuted, IsRemembered, OutOfMemory}
 pub use Rattle.search_rules.specs.Decided.{IsDecided}

@@ -4,8 +4,8 @@ use Rattle.search_graph.specs.Below.{Awaits, Begins, Cache, CacheNode, Call, CxO
 use Rattle.run_records.specs.declared.runs.Fate.{Fate}
 use Rattle.run_records.specs.declared.runs.Fate.TheVariants as becomes
 use Rattle.search_context.specs.declared.context.Answer.{Answer}
-use Rattle.search_moves.specs.Drafts.{LeavesReached}
-use Rattle.search_moves.specs.declared.evaluation.Evaluation.{Evaluation}
+use Rattle.search_state.specs.Drafts.{LeavesReached}
+use Rattle.search_state.specs.declared.evaluation.Evaluation.{Evaluation}
 
 -- What a call keeps of the cache: the context, stored results or equal ones, finished nodes, and each node's goal.
 pub record KeepsAll {C I R A T : Type 0} (same : I → I → Bool) (old new : Cache C I R A T) : Type 0 where

@@ -2,8 +2,8 @@
 use Rattle.std.specs.Prelude.{All, Bool, Contains, false, ◌≡◌, ◌≤◌, length, List, ℕ, Result, IfOk, IfErr, OnErr, slice_get, Some}
 use Rattle.search_context.specs.declared.context.Answer.{Answer}
 use Rattle.search_graph.specs.Below.{AreDefinite, Awaits, Begins, Cache, Call, CxOf, DelegateOf, Fault, HaveNoOverflowOf, IsDefinite, IsMemoryOrOrder, Next, PathKind, Received, verdicts}
-use Rattle.search_moves.specs.Settled.{IsSettledStore, Settles, SettlesNext}
-use Rattle.search_moves.specs.declared.evaluation.Evaluation.{Evaluation}
+use Rattle.between_moves.specs.Settled.{IsSettledStore, Settles, SettlesNext}
+use Rattle.search_state.specs.declared.evaluation.Evaluation.{Evaluation}
 use Rattle.search_rules.specs.Settled.{CallNeedsTwoRuns, NeedsTwoRuns}
 
 module _ {D C V P F I R A T : Type 0} (G : DelegateOf D C V P F I R A T) (X : CxOf C I R A T) (same : I → I → Bool) where

@@ -2,8 +2,8 @@
 use Rattle.std.specs.Prelude.{◌≡◌, ◌≤◌, ℕ, Bool, length, List, []}
 use Rattle.graph_nodes.specs.Collected.{StayBefore}
 use Rattle.search_graph.specs.Below.{AreFrom, Cache, ChangesNewest, CxOf, DelegateOf, fates_of, Finished, HasReply, HaveExpected, IsJustifiedNext, IsNew, IsRightFor, KeepsFirst, KeepsResults, Next, Received, Step, OpenGoal, verdicts}
-use Rattle.search_moves.specs.Drafts.{AreNotedNodes, HasNoDrafts, LeavesReached}
-use Rattle.search_moves.specs.declared.evaluation.Evaluation.{Evaluation}
+use Rattle.search_state.specs.Drafts.{AreNotedNodes, HasNoDrafts, LeavesReached}
+use Rattle.search_state.specs.declared.evaluation.Evaluation.{Evaluation}
 
 module _ {D C V P F I R A T : Type 0} (same : I → I → Bool) where
   -- The call's nodes begin at a place of the list, and no node before it leads to one of them; those of the goals' runs are among them;

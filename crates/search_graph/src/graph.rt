@@ -1,10 +1,10 @@
 //! The search graph. A call has the goals under evaluation in one list and works through them in one loop,
 //! so that no depth of goals takes native stack.
-ghost use Rattle.search_moves.specs.Drafts.{LeavesReached};
+ghost use Rattle.search_state.specs.Drafts.{LeavesReached};
 ghost use Rattle.std.specs.Prelude.{◌≡◌, ◌≤◌, ◌+◌, length, ℕ, true, false, None, IsTrue, IfOk, IfErr, IfSome, Ok, Err, [], ◌≢◌, max, List, Contains};
 ghost use Rattle.search_graph.specs.Below.{first_accepted, usable, IsPlainTo, IsPlainValue, frames_within, KeepsResults, Memory, Protocol, KeepsFinished, KeepsNodes, IsWhole, KeepsWhole, IsDecisive, IsDefinite, HasGraph, IsPaid, verdicts, Decides, IsRemembered, IsCaused, IsMemoryOrOrder, IsProved, IsRefuted, AreDefinite, HaveNoOverflow, HaveNoOverflowOf, HasCounted, IsEnclosed, StoresWithin};
 ghost use Rattle.search_graph.specs.Settled.{TwoRunsAreEnough};
-ghost use Rattle.search_moves.specs.Settled.{IsSettledStore};
+ghost use Rattle.between_moves.specs.Settled.{IsSettledStore};
 ghost use Rattle.search_rules.specs.Settled.{HasOneOfEach};
 
 mod evaluate;
@@ -16,10 +16,10 @@ use evaluate::evaluate;
 use global_cache::GlobalCache;
 use path_kinds::path::PathKind;
 use search_context::context::{Answer, Cx, Delegate, Fault};
-use search_moves::drafts::Drafts;
-use search_moves::evaluation::Evaluation;
 pub use search_parts::{context, global_cache, parts, path};
 use search_stack::depth::AvailableDepth;
+use search_state::drafts::Drafts;
+use search_state::evaluation::Evaluation;
 use std::alloc::Global;
 use std::marker::Model;
 

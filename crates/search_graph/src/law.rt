@@ -1,7 +1,7 @@
 //! A law of what calls promise of stored results.
 ghost use Rattle.std.specs.Prelude.{◌≡◌, List, []};
 ghost use Rattle.search_graph.specs.Below.{CacheNode, Store, StoredResult};
-ghost use Rattle.search_moves.specs.Settled.{IsSettledStore};
+ghost use Rattle.between_moves.specs.Settled.{IsSettledStore};
 
 use search_context::context::Delegate;
 

@@ -5,7 +5,7 @@ use Rattle.search_context.specs.declared.context.Answer.{Answer}
 use Rattle.search_graph.specs.Below.{AreDefinite, Cache, CxOf, DelegateOf, Fault, HaveNoOverflowOf, PathKind, verdicts}
 use Rattle.search_graph.specs.Settled.{TakesTwoRuns, TwoRunsAreEnough}
 use Rattle.search_graph.proofs.lists.ListLimits.{at_or_last, beyond_none, each_of}
-use Rattle.search_moves.specs.Settled.{IsSettledStore}
+use Rattle.between_moves.specs.Settled.{IsSettledStore}
 use Rattle.search_rules.specs.Settled.{NeedsTwoRuns}
 
 module _ {D C V P F I R A T : Type 0} (G : DelegateOf D C V P F I R A T) (X : CxOf C I R A T) (same : I → I → Bool) where

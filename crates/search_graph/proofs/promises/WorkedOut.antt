@@ -8,7 +8,7 @@ use Rattle.search_graph.proofs.lists.ListLimits.{only_answer, only_fault}
 use Rattle.search_graph.proofs.turns.Loops.{call_among, call_of, call_over, call_among_begins, call_begins, call_over_begins}
 use Rattle.search_graph.proofs.promises.Promises.{ended_by_runs, ended_paid, ended_plain, ended_within, stopped_by_runs, stopped_paid, stopped_within}
 use Rattle.search_graph.proofs.promises.StoredDepths.{stores_within}
-use Rattle.search_moves.specs.declared.evaluation.Evaluation.{Evaluation}
+use Rattle.search_state.specs.declared.evaluation.Evaluation.{Evaluation}
 use Rattle.search_rules.proofs.answers.Differing.{memory_or_order}
 use Rattle.search_rules.specs.Evaluating.{KeepsStore}
 use Rattle.search_rules.specs.Settled.{HasOneOfEach}

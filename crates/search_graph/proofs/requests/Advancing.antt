@@ -1,7 +1,7 @@
 -- The newest frame gets its reply and makes a request: what the moves after that may rest on.
 use Rattle.std.proofs.Common.{◌≡◌, ℕ, Bool, List, sym, ◌∙◌, subst}
 use Rattle.search_graph.specs.Below.{DelegateOf, CxOf, Request, Received, Cache, HasStepped, IsStepFault, NotesCandidate, OpenGoal, Fault, Awaits, Call, fates_of, HasReply, HasRequest, HaveExpected, IsRight, IsRightFor, Requests, StopsWith, work_left}
-use Rattle.search_moves.specs.declared.evaluation.Evaluation.{Evaluation}
+use Rattle.search_state.specs.declared.evaluation.Evaluation.{Evaluation}
 use Rattle.search_graph.proofs.turns.Causes.{step_keeps_free}
 use Rattle.search_graph.proofs.turns.Loops.{advance_asks, advance_justified, advance_stops, step_asks_for, stepped_some}
 use Rattle.search_rules.proofs.moves.Fates.{fates_stepped}

@@ -11,11 +11,11 @@ use Rattle.search_graph.specs.Below.{AreSoundResults, AvailableDepth, Begin, Cac
 use Rattle.search_rules.specs.Below.{Answer, at_depth, DefiniteAnswer, edge_to, IsVerdict, KeepsAnswer, Lists, NestedPaths, No, open_number, paths_at, ProvisionalCacheEntry, stack_of, StackDepth, verdict_of, Yes}
 use Rattle.search_rules.specs.Justified.{cycles_node, frames_of}
 use Rattle.lean_runs.specs.Backed.{verdict_shape}
-use Rattle.search_moves.specs.Asked.{question_depth}
-use Rattle.search_moves.specs.Settled.{IsSettledStore, EntriesSuitCall, Settles}
-use Rattle.search_moves.specs.declared.evaluation.Evaluation.{Evaluation}
-use Rattle.search_moves.proofs.two_runs.KeptEntries.{began_keeps_entries, noted_keeps_entries}
-use Rattle.search_moves.proofs.two_runs.Settling.{pushed_settles}
+use Rattle.search_questions.specs.Asked.{question_depth}
+use Rattle.between_moves.specs.Settled.{IsSettledStore, EntriesSuitCall, Settles}
+use Rattle.search_state.specs.declared.evaluation.Evaluation.{Evaluation}
+use Rattle.search_questions.proofs.two_runs.KeptEntries.{began_keeps_entries, noted_keeps_entries}
+use Rattle.search_questions.proofs.two_runs.Settling.{pushed_settles}
 use Rattle.search_rules.specs.Words.{AnswerStaysOff, AreSettledGoals, CallNeedsTwoRuns, IsAside, IsLone, IsOff, IsSettling, IsStop, LoneRequire, NoneIsLone, RestOnOlder, StaysOff, WalksToGoals}
 use Rattle.search_rules.proofs.two_runs.LoneGoals.{noted_none_lone, stepped_none_lone, top_not_lone}
 use Rattle.search_rules.proofs.answers.Kept.{ignored_counts}

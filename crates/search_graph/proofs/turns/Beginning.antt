@@ -1,12 +1,12 @@
 -- An evaluation begins: its goal is the first one that is pushed.
 use Rattle.std.proofs.Common.{◌≡◌, ◌≤◌, ◌+◌, ℕ, Bool, true, List, None, sym, subst}
 use Rattle.search_graph.specs.Below.{AreSoundResults, AvailableDepth, Begin, Cache, CacheNode, CountsOne, CxOf, DelegateOf, Memory, PathKind, verdicts, OpenGoal, AreFree, AreJustified, AreReady, NewestAsks, Awaits, Begins, Call, IsNew, IsRight, IsRightFor, KeepsAnswers, Pushes, StopsWith, runs_of}
-use Rattle.search_moves.specs.declared.evaluation.Evaluation.{Evaluation}
-use Rattle.search_moves.proofs.moves.Asking.{pushed_right}
+use Rattle.search_state.specs.declared.evaluation.Evaluation.{Evaluation}
+use Rattle.search_questions.proofs.moves.Asking.{pushed_right}
 use Rattle.search_rules.proofs.justified.Justified.{nothing_is_justified}
 use Rattle.search_graph.proofs.turns.Loops.{first_stopped, first_waits}
 use Rattle.search_rules.proofs.answers.Free.{all_free_nothing}
-use Rattle.search_moves.proofs.moves.Said.{no_entries}
+use Rattle.search_ends.proofs.moves.Said.{no_entries}
 use Rattle.search_rules.proofs.entries.Ready.{none_ready}
 
 module _ {D C V P F I R A T : Type 0} (G : DelegateOf D C V P F I R A T) (X : CxOf C I R A T) (same : I → I → Bool) (cx : C) (kind : PathKind) (goal : I) (old : Cache C I R A T) (e : Evaluation D C V P F I R A T) (is_new : IsNew e) where

@@ -1,14 +1,16 @@
--- Why a step fails, and that stored results rest on no goal while steps are taken.
-use Rattle.std.proofs.Common.{◌≡◌, ℕ, Bool, List, ◌∷◌, refl, sym, subst}
-use Rattle.search_graph.specs.Below.{DelegateOf, CxOf, Request, Fault, StoredResult, OpenGoal, Cache, CacheNode, Store, Received, requested, HasStepped, IsStepFault, NoMemoryLeft, received_by, verdicts, Call, IsWaiting, AreFree, IsFit, run_of, runs_of}
-use Rattle.search_moves.specs.Storing.{HasLastingCause}
-use Rattle.search_moves.specs.declared.drafts.Drafts.{Drafts}
-use Rattle.search_moves.proofs.results.Causes.{memory_lasts}
+-- Why a step fails, that the cause of a fault lasts, and that stored results rest on no goal while steps are taken.
+use Rattle.std.proofs.Common.{◌≡◌, ℕ, Bool, List, ◌∷◌, Option, refl, sym, subst}
+use Rattle.search_graph.specs.Below.{DelegateOf, CxOf, Request, Fault, IsCaused, NodeId, StoredResult, OpenGoal, Cache, CacheNode, Store, Received, requested, HasStepped, IsStepFault, NoMemoryLeft, received_by, verdicts, Call, IsWaiting, AreFree, IsFit, run_of, runs_of}
+use Rattle.search_ends.specs.Storing.{HasLastingCause}
+use Rattle.search_state.specs.declared.drafts.Drafts.{Drafts}
+use Rattle.search_ends.proofs.results.Causes.{memory_lasts}
 use Rattle.search_rules.specs.Claims.{OutOfOrder}
 use Rattle.goal_changes.specs.Steps as steps
 use Rattle.search_rules.proofs.moves.Moves.{can_step_record, fault_after_step}
 use Rattle.search_rules.proofs.justified.Replies.{replies_sorted}
 use Rattle.search_rules.proofs.answers.Free.{all_free_above}
+use Rattle.search_questions.specs.Collecting.{LetsGoAtEnd}
+use Rattle.search_state.specs.declared.evaluation.Evaluation.{Evaluation}
 
 module _ {D C V P F I R A T : Type 0} (G : DelegateOf D C V P F I R A T) (X : CxOf C I R A T) (same : I → I → Bool) (cache : Cache C I R A T) (drafts : Drafts) (given : Received R) (goals : List (OpenGoal C F I R A T)) (starts : ℕ) (met : Bool) where
   -- a step failed for want of memory, or since the newest goal's request was out of order
@@ -32,3 +34,9 @@ step_keeps_free {C = C} {F = F} {I = I} {R = R} {A = A} {T = T} G X cx same node
     let was : AreFree (verdicts X) same nodes (run_of (s.entry, s.run) ∷ runs_of s.below) results = subst (λ (l : List (OpenGoal C F I R A T)). AreFree (verdicts X) same nodes (runs_of l) results) s.was free in
     subst (λ (l : List (OpenGoal C F I R A T)). AreFree (verdicts X) same nodes (runs_of l) results) (sym s.is)
     (all_free_above (verdicts X) same nodes (run_of (s.entry, s.run)) (run_of (s.entry, record s.run { frame = s.frame; progress = requested (received_by G X cx s.run given s.verdict) request })) (runs_of s.below) results refl refl refl refl was)
+
+-- the cause of a fault is one still when nodes are let go at the end of the call
+pub cause_stays_at_end : {D C V P F I R A T : Type 0} (G : DelegateOf D C V P F I R A T) (X : CxOf C I R A T) (same : I → I → Bool) (e : Evaluation D C V P F I R A T) (old new : Cache C I R A T) (target : Option NodeId) → LetsGoAtEnd same e target old new → (fault : Fault I R) → HasLastingCause G X same old e.drafts fault → IsCaused G X same new fault
+cause_stays_at_end G X same e old new target goes fault h =
+    subst (λ cache. IsCaused G X same cache fault) (sym goes.rest)
+    (h.lasts goes.live new.nodes goes.collected goes.results goes.noted_are)

@@ -17,11 +17,12 @@ use Rattle.search_context.specs.Graph.{HasEdge}
 use Rattle.search_graph.specs.Below.{AreFrom, AreRuns, AreSoundResults, Cache, CacheNode, Call, ChangesNewest, CxOf, DelegateOf, fates_of, Fault, Finished, IsRightFor, IsRightNext, KeepsCache, KeepsFirst, KeepsNodes, KeepsResults, LeadsTo, Memory, NodeId, Place, Received, Reply, Request, Step, OpenGoal, StopsWith, stored_at, StoredResult, verdicts, Verdicts}
 use Rattle.search_rules.proofs.records.EarlierNodes.{first_there}
 use Rattle.search_graph.specs.Turns.{HasDrafts, IsRightTurn, TurnsCache}
-use Rattle.search_moves.specs.Drafts.{AreNotedNodes, HasNoDrafts, LeavesReached, LetsGo, LetsGoAtEnd}
-use Rattle.search_moves.specs.Settled.{Settles}
-use Rattle.search_moves.specs.declared.drafts.Drafts.{Drafts}
-use Rattle.search_moves.specs.declared.evaluation.Evaluation.{Evaluation}
-use Rattle.search_moves.proofs.nodes.LettingGo.{graph_stays_at_end, right_for_stays, settles_stay}
+use Rattle.search_state.specs.Drafts.{AreNotedNodes, HasNoDrafts, LeavesReached}
+use Rattle.search_questions.specs.Collecting.{LetsGo, LetsGoAtEnd}
+use Rattle.between_moves.specs.Settled.{Settles}
+use Rattle.search_state.specs.declared.drafts.Drafts.{Drafts}
+use Rattle.search_state.specs.declared.evaluation.Evaluation.{Evaluation}
+use Rattle.search_questions.proofs.nodes.LettingGo.{graph_stays_at_end, right_for_stays, settles_stay}
 
 -- ---- nodes that were there before
 

@@ -5,8 +5,8 @@ ghost use Rattle.search_graph.specs.Below.{ChangesCache, IsCaused, IsFated, Memo
 ghost use Rattle.search_graph.specs.Calls.{Advances, Evaluates, IsGrounded, MovesGoals, Spares};
 ghost use Rattle.search_graph.specs.Settled.{EndsSettled, StaysSettled};
 ghost use Rattle.search_graph.specs.Turns.{HasDrafts, IsAtOutset, IsRightTurn, KeepsDrafts, TurnsCache};
-ghost use Rattle.search_moves.specs.Drafts.{KeepsNoted, LeavesReached};
-ghost use Rattle.search_moves.specs.Storing.{HasLastingCause};
+ghost use Rattle.search_state.specs.Drafts.{KeepsNoted, LeavesReached};
+ghost use Rattle.search_ends.specs.Storing.{HasLastingCause};
 ghost use Rattle.search_rules.specs.Lone.{IsLone};
 
 use global_cache::GlobalCache;
@@ -15,8 +15,11 @@ use open_goals::goals::step;
 use path_kinds::path::PathKind;
 use run_records::runs::{Fate, Received};
 use search_context::context::{Answer, Cx, Delegate, Fault, Reply, Request};
-use search_moves::evaluation::Evaluation;
+use search_ends::run_end::finish_run;
+use search_questions::collecting::{collect_at_end, collect_drafts, give_up};
+use search_questions::question::{ask, push_goal};
 use search_rules::look_up::{Consulted, consult};
+use search_state::evaluation::Evaluation;
 
 /// The answer to the goal: a stored result, if the builder lets one be used and it is not to be validated, or else
 /// what the goal is worked out to.
@@ -102,7 +105,7 @@ pub(crate) fn work_out<D: Delegate>(
     let depth = evaluation.root_depth;
     cache.has_runs();
     cache.has_sound_results();
-    evaluation.push_goal(cache, step_kind, input, depth, fate, inspect)?;
+    push_goal(evaluation, cache, step_kind, input, depth, fate, inspect)?;
     let mut received = Received::without_node(Reply::Begin);
     loop {
         match take_turn::<D>(evaluation, cache, received, inspect)? {
@@ -148,15 +151,15 @@ fn take_turn<D: Delegate>(
 {
     match advance::<D>(evaluation, cache, received, inspect) {
         Ok(Next::Step(given)) => {
-            evaluation.collect_drafts(cache, given.node);
+            collect_drafts(evaluation, cache, given.node);
             Ok(Next::Step(given))
         }
         Ok(Next::Finished(answer)) => {
-            evaluation.collect_at_end(cache, answer.node)?;
+            collect_at_end(evaluation, cache, answer.node)?;
             Ok(Next::Finished(answer))
         }
         Err(fault) => {
-            evaluation.give_up(cache)?;
+            give_up(evaluation, cache)?;
             Err(fault)
         }
     }
@@ -204,11 +207,11 @@ fn advance<D: Delegate>(
     )?;
     match request {
         Request::Evaluate(kind, input) => {
-            let next = evaluation.ask(cache, kind, input, inspect)?;
+            let next = ask(evaluation, cache, kind, input, inspect)?;
             Ok(Next::Step(next))
         }
         Request::Done(outcome) => {
-            let next = evaluation.finish_run(cache, outcome, inspect)?;
+            let next = finish_run(evaluation, cache, outcome, inspect)?;
             Ok(next)
         }
         request => {

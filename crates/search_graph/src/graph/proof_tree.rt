@@ -1,5 +1,5 @@
 //! A goal that is worked out whatever is stored of it, so that a builder sees all of it.
-ghost use Rattle.search_moves.specs.Drafts.{LeavesReached};
+ghost use Rattle.search_state.specs.Drafts.{LeavesReached};
 ghost use Rattle.std.specs.Prelude.{◌≡◌, ◌≢◌, ◌≤◌, ◌+◌, length, ◌∷◌, ℕ, true, false, max, [], None, IfOk, IfErr, IfSome};
 ghost use Rattle.path_kinds.specs.declared.path.PathKind.TheVariants.{Inductive};
 ghost use Rattle.search_graph.specs.Below.{frames_within, HasGraph, IsCaused, IsPlainTo, IsPlainValue, IsProved, IsRefuted, IsWhole, KeepsFinished, KeepsNodes, KeepsResults, KeepsWhole, Memory, Place, StoresWithin, stored_at, verdicts};
@@ -11,9 +11,9 @@ use global_cache::GlobalCache;
 use path_kinds::path::PathKind;
 use run_records::runs::Fate;
 use search_context::context::{Answer, Cx, Delegate, Fault};
-use search_moves::drafts::Drafts;
-use search_moves::evaluation::Evaluation;
 use search_stack::depth::AvailableDepth;
+use search_state::drafts::Drafts;
+use search_state::evaluation::Evaluation;
 
 impl<D: Delegate> SearchGraph<D> {
     /// The answer to a goal that is worked out at once, on a new graph of this depth: no stored result of the goal is

@@ -1,7 +1,7 @@
 use Rattle.std.proofs.Common.{inr, sym, subst}
 use Rattle.search_graph.specs.Below.{Store, StoredResult}
 use Rattle.search_graph.proofs.law.nothing_is_settled.Goals as goal
-use Rattle.search_moves.specs.Settled.{IsSettledStore}
+use Rattle.between_moves.specs.Settled.{IsSettledStore}
 
 pub returns : goal.returns
 returns g c = λ cx nodes goals results none.

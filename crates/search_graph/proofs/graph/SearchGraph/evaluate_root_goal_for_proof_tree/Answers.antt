@@ -1,4 +1,4 @@
-use Rattle.search_moves.specs.Drafts.{HasNoDrafts}
+use Rattle.search_state.specs.Drafts.{HasNoDrafts}
 use Rattle.std.proofs.Common.{ap, refl, subst, sym}
 use Rattle.graph_nodes.proofs.Definites.{definite_is_whole}
 use Rattle.graph_nodes.proofs.Whole.{whole_stays}

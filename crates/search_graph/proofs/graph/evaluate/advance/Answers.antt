@@ -1,9 +1,11 @@
 use Rattle.std.proofs.Common.{◌∙◌, refl, sym, subst}
 use Rattle.search_graph.specs.Below.{ChangesNewest, fates_of, IfFinished, IsFated, IsNewestToStore, IsRememberedWhere, MovesFates, CanStep, Request, NotesCandidate, Evaluate, Done, verdicts, CallGoesOn, IsFit, StopsWith, runs_of, work_left}
 use Rattle.search_graph.proofs.requests.Advancing.{has_expected, has_request, requests, step_stops, stepped_right}
-use Rattle.search_moves.proofs.moves.Asking.{asked_goes_on, asked_right}
-use Rattle.search_moves.proofs.nodes.Noting.{noted_same}
-use Rattle.search_moves.proofs.results.Keeping.{asked_from, cache_stays, later_keeps, led_from, stay_then}
+use Rattle.search_questions.proofs.moves.Asking.{asked_goes_on, asked_right}
+use Rattle.search_state.proofs.nodes.Noting.{noted_same}
+use Rattle.search_questions.proofs.moves.AskedGoals.{asked_from}
+use Rattle.between_moves.proofs.Keeping.{cache_stays, later_keeps, stay_then}
+use Rattle.search_ends.proofs.moves.EndedGoals.{led_from}
 use Rattle.search_rules.proofs.records.EarlierNodes.{stay_candidates, stay_stepped}
 use Rattle.search_graph.proofs.turns.Causes.{step_has_cause, step_keeps_free}
 use Rattle.search_rules.proofs.justified.Finishing.{noted_fits}
@@ -12,16 +14,17 @@ use Rattle.search_rules.proofs.moves.Moves.{asked_stopped, can_step, some_waits}
 use Rattle.search_graph.proofs.requests.Noted.{about_candidates, can_note, noted_is_justified, noting_goes_on, noting_keeps_free}
 use Rattle.search_rules.proofs.moves.Questions.{if_err_and, no_ok}
 use Rattle.search_rules.proofs.entries.Moves.{noted_ready, stepped_ready}
-use Rattle.search_moves.proofs.results.Fating.{asked_fates, led_fates}
+use Rattle.search_questions.proofs.moves.AskedGoals.{asked_fates}
+use Rattle.search_ends.proofs.moves.EndedGoals.{led_fates}
 use Rattle.search_rules.proofs.moves.Fates.{fates_of_candidates, fates_stepped}
 use Rattle.search_rules.specs.Fates.{Stay, Untouched}
-use Rattle.search_moves.specs.Settled.{Settles}
-use Rattle.search_moves.specs.Storing.{HasLastingCause}
-use Rattle.search_moves.proofs.results.Causes.{memory_lasts}
-use Rattle.search_moves.proofs.results.Failing.{if_err_then}
-use Rattle.search_moves.proofs.two_runs.SettledEnds.{end_unmet, led_settles}
-use Rattle.search_moves.proofs.two_runs.SettledFaults.{settled_stays, store_settled}
-use Rattle.search_moves.proofs.two_runs.Settling.{asked_settles}
+use Rattle.between_moves.specs.Settled.{Settles}
+use Rattle.search_ends.specs.Storing.{HasLastingCause}
+use Rattle.search_ends.proofs.results.Causes.{memory_lasts}
+use Rattle.search_ends.proofs.results.Failing.{if_err_then}
+use Rattle.search_ends.proofs.two_runs.SettledEnds.{end_unmet, led_settles}
+use Rattle.between_moves.proofs.SettledStores.{settled_stays, store_settled}
+use Rattle.search_questions.proofs.two_runs.Settling.{asked_settles}
 use Rattle.search_graph.proofs.requests.SettledSteps.{ask_unmet, needs_with, noted_settles, noted_stays_off, stepped_entries}
 use Rattle.search_graph.proofs.graph.evaluate.advance.Goals as goal
 
@@ -55,7 +58,7 @@ returns-in_err-next-in-Evaluate-clause-advances g c = record {
   leads = λ call h. no_ok c.from_residual-in_err-next-in-Evaluate.result _ _ c.from_residual-in_err-next-in-Evaluate.ensures.1;
   stops = λ call h.
       if_err_and c.from_residual-in_err-next-in-Evaluate.result _ _ c.from_residual-in_err-next-in-Evaluate.ensures.1
-      (λ e is. subst (λ fault. StopsWith g.D.Delegate g.D.Cx.Cx g.D.Cx.Input.PartialEq.eq c.args.cache.now.cx call fault c.ask.new.cache c.ask.new.self (g.D.Delegate.starts c.ask.new.inspect)) (sym is)
+      (λ e is. subst (λ fault. StopsWith g.D.Delegate g.D.Cx.Cx g.D.Cx.Input.PartialEq.eq c.args.cache.now.cx call fault c.ask.new.cache c.ask.new.evaluation (g.D.Delegate.starts c.ask.new.inspect)) (sym is)
       (c.in_err-next-in-Evaluate.ensures.stops call _ (requests g.D.Delegate g.D.Cx.Cx g.D.Cx.Input.PartialEq.eq c.args.cache.now.cx c.args.cache.now c.args.evaluation.now c.args.received c.cx-cx.result c.cx-cx.ensures c.in_ok-request.request c.step.new.goals c.in_ok-request.ensures.stepped (g.D.Delegate.starts c.args.inspect.now) (g.D.Delegate.starts c.step.new.inspect) c.step.ensures.same_starts (Evaluate c.in-Evaluate.kind c.in-Evaluate.input) c.in-Evaluate.is c.requires.reply.right call h)));
 }
 
@@ -63,7 +66,7 @@ pub returns-in_ok-next-in-Evaluate-clause-advances : goal.returns-in_ok-next-in-
 returns-in_ok-next-in-Evaluate-clause-advances g c = record {
   leads = λ call h.
       let ready = stepped_ready g.D.Delegate g.D.Cx.Cx c.cx-cx.result g.D.Cx.Input.PartialEq.eq (g.D.Delegate.script c.args.cache.now.cx) c.args.cache.now.nodes c.args.evaluation.now.provisional c.args.received c.in_ok-request.request c.args.evaluation.now.goals c.step.new.goals c.in_ok-request.ensures.stepped c.requires.reply.right.right.ready in
-      let on = asked_goes_on g.D.Delegate g.D.Cx.Cx g.D.Cx.Input.PartialEq.eq c.args.cache.now.cx c.in-Evaluate.kind c.in-Evaluate.input c.args.cache.now (record c.args.evaluation.now { goals = c.step.new.goals }) (g.D.Delegate.starts c.step.new.inspect) g.met.D.Delegate.divides g.met.D.Cx.Cx.same_input g.met.D.Cx.Input.Eq.laws.refl (g.met.D.Delegate.initial_sort c.args.cache.now.cx) (g.D.Delegate.noop c.step.new.inspect) c.in_ok-next-in-Evaluate.next c.ask.new.cache c.ask.new.self (g.D.Delegate.starts c.ask.new.inspect) c.in_ok-next-in-Evaluate.ensures.asked ready call _
+      let on = asked_goes_on g.D.Delegate g.D.Cx.Cx g.D.Cx.Input.PartialEq.eq c.args.cache.now.cx c.in-Evaluate.kind c.in-Evaluate.input c.args.cache.now (record c.args.evaluation.now { goals = c.step.new.goals }) (g.D.Delegate.starts c.step.new.inspect) g.met.D.Delegate.divides g.met.D.Cx.Cx.same_input g.met.D.Cx.Input.Eq.laws.refl (g.met.D.Delegate.initial_sort c.args.cache.now.cx) (g.D.Delegate.noop c.step.new.inspect) c.in_ok-next-in-Evaluate.next c.ask.new.cache c.ask.new.evaluation (g.D.Delegate.starts c.ask.new.inspect) c.in_ok-next-in-Evaluate.ensures.asked ready call _
       (requests g.D.Delegate g.D.Cx.Cx g.D.Cx.Input.PartialEq.eq c.args.cache.now.cx c.args.cache.now c.args.evaluation.now c.args.received c.cx-cx.result c.cx-cx.ensures c.in_ok-request.request c.step.new.goals c.in_ok-request.ensures.stepped (g.D.Delegate.starts c.args.inspect.now) (g.D.Delegate.starts c.step.new.inspect) c.step.ensures.same_starts (Evaluate c.in-Evaluate.kind c.in-Evaluate.input) c.in-Evaluate.is c.requires.reply.right call h) in
       record { leads = on.goes_on; answers = on.answers; remembered = tt };
   stops = λ call h. tt;
@@ -71,7 +74,7 @@ returns-in_ok-next-in-Evaluate-clause-advances g c = record {
 
 pub returns-in_ok-next-in-Evaluate-clause-right : goal.returns-in_ok-next-in-Evaluate-clause-right
 returns-in_ok-next-in-Evaluate-clause-right g c =
-    let right = asked_right g.D.Delegate g.D.Cx.Cx g.D.Cx.Input.PartialEq.eq c.args.cache.now.cx c.in-Evaluate.kind c.in-Evaluate.input c.args.cache.now (record c.args.evaluation.now { goals = c.step.new.goals }) (g.D.Delegate.starts c.step.new.inspect) g.met.D.Delegate.stack_overflow_is_neither (g.met.D.Delegate.initial_sort c.args.cache.now.cx) (g.D.Delegate.noop c.step.new.inspect) c.in_ok-next-in-Evaluate.next c.ask.new.cache c.ask.new.self (g.D.Delegate.starts c.ask.new.inspect) c.in_ok-next-in-Evaluate.ensures.asked
+    let right = asked_right g.D.Delegate g.D.Cx.Cx g.D.Cx.Input.PartialEq.eq c.args.cache.now.cx c.in-Evaluate.kind c.in-Evaluate.input c.args.cache.now (record c.args.evaluation.now { goals = c.step.new.goals }) (g.D.Delegate.starts c.step.new.inspect) g.met.D.Delegate.stack_overflow_is_neither (g.met.D.Delegate.initial_sort c.args.cache.now.cx) (g.D.Delegate.noop c.step.new.inspect) c.in_ok-next-in-Evaluate.next c.ask.new.cache c.ask.new.evaluation (g.D.Delegate.starts c.ask.new.inspect) c.in_ok-next-in-Evaluate.ensures.asked
     (step_asks_for g.D.Delegate g.D.Cx.Cx c.args.cache.now.cx c.args.received c.args.evaluation.now.goals c.step.new.goals c.cx-cx.result c.in_ok-request.request c.in_ok-request.ensures.stepped c.in-Evaluate.kind c.in-Evaluate.input c.in-Evaluate.is)
     (stepped_right g.D.Delegate g.D.Cx.Cx g.D.Cx.Input.PartialEq.eq c.args.cache.now.cx c.args.cache.now c.args.evaluation.now c.args.received c.cx-cx.result c.cx-cx.ensures c.in_ok-request.request c.step.new.goals c.in_ok-request.ensures.stepped (subst (λ (q : Request _ _). NotesCandidate q c.step.new.goals c.step.new.goals) (sym c.in-Evaluate.is) refl) c.requires.reply.right) in
     record { justified = (right.right.justified, right.fits); free = right.right.free; ready = right.right.ready }
@@ -89,7 +92,7 @@ returns-in_err-next-in-Done-clause-advances g c = record {
   leads = λ call h. no_ok c.from_residual-in_err-next-in-Done.result _ _ c.from_residual-in_err-next-in-Done.ensures.1;
   stops = λ call h.
       if_err_and c.from_residual-in_err-next-in-Done.result _ _ c.from_residual-in_err-next-in-Done.ensures.1
-      (λ e is. subst (λ fault. StopsWith g.D.Delegate g.D.Cx.Cx g.D.Cx.Input.PartialEq.eq c.args.cache.now.cx call fault c.finish_run.new.cache c.finish_run.new.self (g.D.Delegate.starts c.finish_run.new.inspect)) (sym is)
+      (λ e is. subst (λ fault. StopsWith g.D.Delegate g.D.Cx.Cx g.D.Cx.Input.PartialEq.eq c.args.cache.now.cx call fault c.finish_run.new.cache c.finish_run.new.evaluation (g.D.Delegate.starts c.finish_run.new.inspect)) (sym is)
       (c.in_err-next-in-Done.ensures.moves.stops call _ (requests g.D.Delegate g.D.Cx.Cx g.D.Cx.Input.PartialEq.eq c.args.cache.now.cx c.args.cache.now c.args.evaluation.now c.args.received c.cx-cx.result c.cx-cx.ensures c.in_ok-request.request c.step.new.goals c.in_ok-request.ensures.stepped (g.D.Delegate.starts c.args.inspect.now) (g.D.Delegate.starts c.step.new.inspect) c.step.ensures.same_starts (Done c.in-Done.outcome) c.in-Done.is c.requires.reply.right call h)));
 }
 
@@ -98,16 +101,16 @@ returns-in_ok-next-in-Done-clause-advances g c = record {
   leads = λ call h.
       let on = c.in_ok-next-in-Done.ensures.moves.leads call _ (requests g.D.Delegate g.D.Cx.Cx g.D.Cx.Input.PartialEq.eq c.args.cache.now.cx c.args.cache.now c.args.evaluation.now c.args.received c.cx-cx.result c.cx-cx.ensures c.in_ok-request.request c.step.new.goals c.in_ok-request.ensures.stepped (g.D.Delegate.starts c.args.inspect.now) (g.D.Delegate.starts c.step.new.inspect) c.step.ensures.same_starts (Done c.in-Done.outcome) c.in-Done.is c.requires.reply.right call h) in
       record {
-        leads = done_leads g.D.Delegate g.D.Cx.Cx c.args.cache.now.cx c.args.received c.args.evaluation.now.goals c.step.new.goals c.cx-cx.result c.in_ok-request.request c.in_ok-request.ensures.stepped call c.in_ok-next-in-Done.next c.finish_run.new.self.goals _ _ on.leads;
+        leads = done_leads g.D.Delegate g.D.Cx.Cx c.args.cache.now.cx c.args.received c.args.evaluation.now.goals c.step.new.goals c.cx-cx.result c.in_ok-request.request c.in_ok-request.ensures.stepped call c.in_ok-next-in-Done.next c.finish_run.new.evaluation.goals _ _ on.leads;
         answers = on.answers;
-        remembered = subst (λ fs. IfFinished c.in_ok-next-in-Done.next (λ answer. IsNewestToStore fs → IsRememberedWhere g.D.Delegate g.D.Cx.Cx c.args.cache.now.cx g.D.Cx.Input.PartialEq.eq call c.finish_run.new.cache c.finish_run.new.self.limits_met answer)) (fates_stepped g.D.Delegate g.D.Cx.Cx c.cx-cx.result c.args.evaluation.now.goals c.step.new.goals c.args.received c.in_ok-request.request c.in_ok-request.ensures.stepped) on.remembered;
+        remembered = subst (λ fs. IfFinished c.in_ok-next-in-Done.next (λ answer. IsNewestToStore fs → IsRememberedWhere g.D.Delegate g.D.Cx.Cx c.args.cache.now.cx g.D.Cx.Input.PartialEq.eq call c.finish_run.new.cache c.finish_run.new.evaluation.limits_met answer)) (fates_stepped g.D.Delegate g.D.Cx.Cx c.cx-cx.result c.args.evaluation.now.goals c.step.new.goals c.args.received c.in_ok-request.request c.in_ok-request.ensures.stepped) on.remembered;
       };
   stops = λ call h. tt;
 }
 
 pub returns-in_ok-next-in-Done-clause-right : goal.returns-in_ok-next-in-Done-clause-right
 returns-in_ok-next-in-Done-clause-right g c = record {
-  justified = next_before g.D.Delegate g.D.Cx.Cx c.args.cache.now.cx c.args.received c.args.evaluation.now.goals c.step.new.goals c.cx-cx.result c.in_ok-request.request c.in_ok-request.ensures.stepped c.finish_run.new.cache.nodes c.finish_run.new.self.goals c.in_ok-next-in-Done.next c.in_ok-next-in-Done.ensures.right.justified;
+  justified = next_before g.D.Delegate g.D.Cx.Cx c.args.cache.now.cx c.args.received c.args.evaluation.now.goals c.step.new.goals c.cx-cx.result c.in_ok-request.request c.in_ok-request.ensures.stepped c.finish_run.new.cache.nodes c.finish_run.new.evaluation.goals c.in_ok-next-in-Done.next c.in_ok-next-in-Done.ensures.right.justified;
   free = c.in_ok-next-in-Done.ensures.right.free;
   ready = c.in_ok-next-in-Done.ensures.right.ready;
 }
@@ -204,24 +207,24 @@ returns-in_ok-note_candidate-in_default-clause-goals g c = record {
 pub returns-in_ok-next-in-Done-clause-goals : goal.returns-in_ok-next-in-Done-clause-goals
 returns-in_ok-next-in-Done-clause-goals g c = record {
   stays =
-      stay_then c.args.cache.now.nodes c.args.evaluation.now.goals c.step.new.goals c.finish_run.new.self.goals
+      stay_then c.args.cache.now.nodes c.args.evaluation.now.goals c.step.new.goals c.finish_run.new.evaluation.goals
       (stay_stepped g.D.Delegate g.D.Cx.Cx c.cx-cx.result c.args.cache.now.nodes c.args.evaluation.now.goals c.step.new.goals c.args.received c.in_ok-request.request c.in_ok-request.ensures.stepped)
-      (led_from g.D.Delegate g.D.Cx.Cx g.D.Cx.Input.PartialEq.eq c.args.cache.now.cx g.D.Cx.Result.PartialEq.eq c.in-Done.outcome c.args.cache.now (record c.args.evaluation.now { goals = c.step.new.goals }) c.in_ok-next-in-Done.next c.finish_run.new.cache c.finish_run.new.self c.in_ok-next-in-Done.ensures.leads);
+      (led_from g.D.Delegate g.D.Cx.Cx g.D.Cx.Input.PartialEq.eq c.args.cache.now.cx g.D.Cx.Result.PartialEq.eq c.in-Done.outcome c.args.cache.now (record c.args.evaluation.now { goals = c.step.new.goals }) c.in_ok-next-in-Done.next c.finish_run.new.cache c.finish_run.new.evaluation c.in_ok-next-in-Done.ensures.leads);
   fates =
-      subst (λ fs. MovesFates g.D.Cx.Input.PartialEq.eq (IsFated (g.D.Delegate.scoped c.args.cache.now.cx) (g.D.Delegate.script c.args.cache.now.cx) g.D.Cx.Input.PartialEq.eq c.args.cache.now.results (g.D.Delegate.noop c.args.inspect.now)) fs (fates_of c.finish_run.new.self.goals)) (fates_stepped g.D.Delegate g.D.Cx.Cx c.cx-cx.result c.args.evaluation.now.goals c.step.new.goals c.args.received c.in_ok-request.request c.in_ok-request.ensures.stepped)
-      (led_fates g.D.Delegate g.D.Cx.Cx g.D.Cx.Input.PartialEq.eq c.args.cache.now.cx g.D.Cx.Result.PartialEq.eq (IsFated (g.D.Delegate.scoped c.args.cache.now.cx) (g.D.Delegate.script c.args.cache.now.cx) g.D.Cx.Input.PartialEq.eq c.args.cache.now.results (g.D.Delegate.noop c.args.inspect.now)) c.in-Done.outcome c.args.cache.now (record c.args.evaluation.now { goals = c.step.new.goals }) c.in_ok-next-in-Done.next c.finish_run.new.cache c.finish_run.new.self c.in_ok-next-in-Done.ensures.leads);
+      subst (λ fs. MovesFates g.D.Cx.Input.PartialEq.eq (IsFated (g.D.Delegate.scoped c.args.cache.now.cx) (g.D.Delegate.script c.args.cache.now.cx) g.D.Cx.Input.PartialEq.eq c.args.cache.now.results (g.D.Delegate.noop c.args.inspect.now)) fs (fates_of c.finish_run.new.evaluation.goals)) (fates_stepped g.D.Delegate g.D.Cx.Cx c.cx-cx.result c.args.evaluation.now.goals c.step.new.goals c.args.received c.in_ok-request.request c.in_ok-request.ensures.stepped)
+      (led_fates g.D.Delegate g.D.Cx.Cx g.D.Cx.Input.PartialEq.eq c.args.cache.now.cx g.D.Cx.Result.PartialEq.eq (IsFated (g.D.Delegate.scoped c.args.cache.now.cx) (g.D.Delegate.script c.args.cache.now.cx) g.D.Cx.Input.PartialEq.eq c.args.cache.now.results (g.D.Delegate.noop c.args.inspect.now)) c.in-Done.outcome c.args.cache.now (record c.args.evaluation.now { goals = c.step.new.goals }) c.in_ok-next-in-Done.next c.finish_run.new.cache c.finish_run.new.evaluation c.in_ok-next-in-Done.ensures.leads);
 }
 
 pub returns-in_ok-next-in-Evaluate-clause-goals : goal.returns-in_ok-next-in-Evaluate-clause-goals
 returns-in_ok-next-in-Evaluate-clause-goals g c = record {
   stays =
-      stay_then c.args.cache.now.nodes c.args.evaluation.now.goals c.step.new.goals c.ask.new.self.goals
+      stay_then c.args.cache.now.nodes c.args.evaluation.now.goals c.step.new.goals c.ask.new.evaluation.goals
       (stay_stepped g.D.Delegate g.D.Cx.Cx c.cx-cx.result c.args.cache.now.nodes c.args.evaluation.now.goals c.step.new.goals c.args.received c.in_ok-request.request c.in_ok-request.ensures.stepped)
-      (asked_from g.D.Delegate g.D.Cx.Cx g.D.Cx.Input.PartialEq.eq c.args.cache.now.cx c.in-Evaluate.kind c.in-Evaluate.input c.args.cache.now (record c.args.evaluation.now { goals = c.step.new.goals }) (g.D.Delegate.starts c.step.new.inspect) (g.D.Delegate.noop c.step.new.inspect) c.in_ok-next-in-Evaluate.next c.ask.new.cache c.ask.new.self (g.D.Delegate.starts c.ask.new.inspect) c.in_ok-next-in-Evaluate.ensures.asked);
+      (asked_from g.D.Delegate g.D.Cx.Cx g.D.Cx.Input.PartialEq.eq c.args.cache.now.cx c.in-Evaluate.kind c.in-Evaluate.input c.args.cache.now (record c.args.evaluation.now { goals = c.step.new.goals }) (g.D.Delegate.starts c.step.new.inspect) (g.D.Delegate.noop c.step.new.inspect) c.in_ok-next-in-Evaluate.next c.ask.new.cache c.ask.new.evaluation (g.D.Delegate.starts c.ask.new.inspect) c.in_ok-next-in-Evaluate.ensures.asked);
   fates =
-      subst (λ fs. MovesFates g.D.Cx.Input.PartialEq.eq (IsFated (g.D.Delegate.scoped c.args.cache.now.cx) (g.D.Delegate.script c.args.cache.now.cx) g.D.Cx.Input.PartialEq.eq c.args.cache.now.results (g.D.Delegate.noop c.args.inspect.now)) fs (fates_of c.ask.new.self.goals)) (fates_stepped g.D.Delegate g.D.Cx.Cx c.cx-cx.result c.args.evaluation.now.goals c.step.new.goals c.args.received c.in_ok-request.request c.in_ok-request.ensures.stepped)
-      (subst (λ b. MovesFates g.D.Cx.Input.PartialEq.eq (IsFated (g.D.Delegate.scoped c.args.cache.now.cx) (g.D.Delegate.script c.args.cache.now.cx) g.D.Cx.Input.PartialEq.eq c.args.cache.now.results b) (fates_of c.step.new.goals) (fates_of c.ask.new.self.goals)) c.step.ensures.same_noop
-      (asked_fates g.D.Delegate g.D.Cx.Cx g.D.Cx.Input.PartialEq.eq c.args.cache.now.cx c.in-Evaluate.kind c.in-Evaluate.input c.args.cache.now (record c.args.evaluation.now { goals = c.step.new.goals }) (g.D.Delegate.starts c.step.new.inspect) (g.D.Delegate.noop c.step.new.inspect) c.in_ok-next-in-Evaluate.next c.ask.new.cache c.ask.new.self (g.D.Delegate.starts c.ask.new.inspect)
+      subst (λ fs. MovesFates g.D.Cx.Input.PartialEq.eq (IsFated (g.D.Delegate.scoped c.args.cache.now.cx) (g.D.Delegate.script c.args.cache.now.cx) g.D.Cx.Input.PartialEq.eq c.args.cache.now.results (g.D.Delegate.noop c.args.inspect.now)) fs (fates_of c.ask.new.evaluation.goals)) (fates_stepped g.D.Delegate g.D.Cx.Cx c.cx-cx.result c.args.evaluation.now.goals c.step.new.goals c.args.received c.in_ok-request.request c.in_ok-request.ensures.stepped)
+      (subst (λ b. MovesFates g.D.Cx.Input.PartialEq.eq (IsFated (g.D.Delegate.scoped c.args.cache.now.cx) (g.D.Delegate.script c.args.cache.now.cx) g.D.Cx.Input.PartialEq.eq c.args.cache.now.results b) (fates_of c.step.new.goals) (fates_of c.ask.new.evaluation.goals)) c.step.ensures.same_noop
+      (asked_fates g.D.Delegate g.D.Cx.Cx g.D.Cx.Input.PartialEq.eq c.args.cache.now.cx c.in-Evaluate.kind c.in-Evaluate.input c.args.cache.now (record c.args.evaluation.now { goals = c.step.new.goals }) (g.D.Delegate.starts c.step.new.inspect) (g.D.Delegate.noop c.step.new.inspect) c.in_ok-next-in-Evaluate.next c.ask.new.cache c.ask.new.evaluation (g.D.Delegate.starts c.ask.new.inspect)
       (stepped_some g.D.Delegate g.D.Cx.Cx c.cx-cx.result c.args.received c.in_ok-request.request c.args.evaluation.now.goals c.step.new.goals c.in_ok-request.ensures.stepped) c.in_ok-next-in-Evaluate.ensures.asked));
 }
 
@@ -258,7 +261,7 @@ returns-in_err-next-in-Evaluate-clause-settled g c = record {
       ask_unmet g.D.Delegate g.D.Cx.Cx g.D.Cx.Input.PartialEq.eq c.args.cache.now.cx c.in-Evaluate.kind c.in-Evaluate.input c.args.cache.now (record c.args.evaluation.now { goals = c.step.new.goals }) (g.D.Delegate.starts c.step.new.inspect) call _ (g.D.Delegate.noop c.step.new.inspect)
       (needs_with g.D.Delegate g.D.Cx.Cx c.args.cache.now.cx call (g.D.Delegate.noop c.args.inspect.now) (g.D.Delegate.noop c.step.new.inspect) c.step.ensures.same_noop needs)
       (requests g.D.Delegate g.D.Cx.Cx g.D.Cx.Input.PartialEq.eq c.args.cache.now.cx c.args.cache.now c.args.evaluation.now c.args.received c.cx-cx.result c.cx-cx.ensures c.in_ok-request.request c.step.new.goals c.in_ok-request.ensures.stepped (g.D.Delegate.starts c.args.inspect.now) (g.D.Delegate.starts c.step.new.inspect) c.step.ensures.same_starts (Evaluate c.in-Evaluate.kind c.in-Evaluate.input) c.in-Evaluate.is c.requires.reply.right call w)
-      c.ask.new.self.limits_met s.settling.unmet c.ask.ensures.meets;
+      c.ask.new.evaluation.limits_met s.settling.unmet c.ask.ensures.meets;
   settles = λ call w needs s. no_ok c.from_residual-in_err-next-in-Evaluate.result _ _ c.from_residual-in_err-next-in-Evaluate.ensures.1;
   leaves = λ call w needs s.
       if_err_then c.from_residual-in_err-next-in-Evaluate.result
@@ -272,7 +275,7 @@ returns-in_ok-next-in-Evaluate-clause-settled g c = record {
       ask_unmet g.D.Delegate g.D.Cx.Cx g.D.Cx.Input.PartialEq.eq c.args.cache.now.cx c.in-Evaluate.kind c.in-Evaluate.input c.args.cache.now (record c.args.evaluation.now { goals = c.step.new.goals }) (g.D.Delegate.starts c.step.new.inspect) call _ (g.D.Delegate.noop c.step.new.inspect)
       (needs_with g.D.Delegate g.D.Cx.Cx c.args.cache.now.cx call (g.D.Delegate.noop c.args.inspect.now) (g.D.Delegate.noop c.step.new.inspect) c.step.ensures.same_noop needs)
       (requests g.D.Delegate g.D.Cx.Cx g.D.Cx.Input.PartialEq.eq c.args.cache.now.cx c.args.cache.now c.args.evaluation.now c.args.received c.cx-cx.result c.cx-cx.ensures c.in_ok-request.request c.step.new.goals c.in_ok-request.ensures.stepped (g.D.Delegate.starts c.args.inspect.now) (g.D.Delegate.starts c.step.new.inspect) c.step.ensures.same_starts (Evaluate c.in-Evaluate.kind c.in-Evaluate.input) c.in-Evaluate.is c.requires.reply.right call w)
-      c.ask.new.self.limits_met s.settling.unmet c.ask.ensures.meets;
+      c.ask.new.evaluation.limits_met s.settling.unmet c.ask.ensures.meets;
   settles = λ call w needs s.
       asked_settles g.D.Delegate g.D.Cx.Cx g.D.Cx.Input.PartialEq.eq g.met.D.Cx.Cx.same_input g.met.D.Cx.Input.Eq.laws.refl g.met.D.Delegate.divides c.args.cache.now.cx c.in-Evaluate.kind c.in-Evaluate.input c.args.cache.now (record c.args.evaluation.now { goals = c.step.new.goals }) (g.D.Delegate.starts c.step.new.inspect) call _ (g.D.Delegate.noop c.step.new.inspect)
       (needs_with g.D.Delegate g.D.Cx.Cx c.args.cache.now.cx call (g.D.Delegate.noop c.args.inspect.now) (g.D.Delegate.noop c.step.new.inspect) c.step.ensures.same_noop needs)
@@ -280,7 +283,7 @@ returns-in_ok-next-in-Evaluate-clause-settled g c = record {
       (stepped_right g.D.Delegate g.D.Cx.Cx g.D.Cx.Input.PartialEq.eq c.args.cache.now.cx c.args.cache.now c.args.evaluation.now c.args.received c.cx-cx.result c.cx-cx.ensures c.in_ok-request.request c.step.new.goals c.in_ok-request.ensures.stepped (subst (λ (q : Request _ _). NotesCandidate q c.step.new.goals c.step.new.goals) (sym c.in-Evaluate.is) refl) c.requires.reply.right)
       (noted_settles g.D.Delegate g.D.Cx.Cx c.cx-cx.result g.D.Cx.Input.PartialEq.eq c.args.cache.now.nodes c.args.cache.now.results c.args.evaluation.now.provisional call c.args.evaluation.now.limits_met c.args.received c.in_ok-request.request c.args.evaluation.now.goals c.step.new.goals c.step.new.goals c.in_ok-request.ensures.stepped s.answer (subst (λ (q : Request _ _). NotesCandidate q c.step.new.goals c.step.new.goals) (sym c.in-Evaluate.is) refl) s.settling)
       (stepped_entries g.D.Delegate g.D.Cx.Cx g.D.Cx.Input.PartialEq.eq c.args.cache.now.cx c.cx-cx.result c.cx-cx.ensures call c.args.received c.in_ok-request.request c.args.cache.now.results c.args.evaluation.now.goals c.step.new.goals c.step.new.goals c.args.evaluation.now.provisional c.in_ok-request.ensures.stepped (subst (λ (q : Request _ _). NotesCandidate q c.step.new.goals c.step.new.goals) (sym c.in-Evaluate.is) refl) s.entries)
-      c.in_ok-next-in-Evaluate.next c.ask.new.cache c.ask.new.self (g.D.Delegate.starts c.ask.new.inspect) c.in_ok-next-in-Evaluate.ensures.asked;
+      c.in_ok-next-in-Evaluate.next c.ask.new.cache c.ask.new.evaluation (g.D.Delegate.starts c.ask.new.inspect) c.in_ok-next-in-Evaluate.ensures.asked;
   leaves = λ call w needs s. tt;
 }
 
@@ -294,7 +297,7 @@ returns-in_err-next-in-Done-clause-settled g c = record {
       (noted_settles g.D.Delegate g.D.Cx.Cx c.cx-cx.result g.D.Cx.Input.PartialEq.eq c.args.cache.now.nodes c.args.cache.now.results c.args.evaluation.now.provisional call c.args.evaluation.now.limits_met c.args.received c.in_ok-request.request c.args.evaluation.now.goals c.step.new.goals c.step.new.goals c.in_ok-request.ensures.stepped s.answer (subst (λ (q : Request _ _). NotesCandidate q c.step.new.goals c.step.new.goals) (sym c.in-Done.is) refl) s.settling)
       (stepped_entries g.D.Delegate g.D.Cx.Cx g.D.Cx.Input.PartialEq.eq c.args.cache.now.cx c.cx-cx.result c.cx-cx.ensures call c.args.received c.in_ok-request.request c.args.cache.now.results c.args.evaluation.now.goals c.step.new.goals c.step.new.goals c.args.evaluation.now.provisional c.in_ok-request.ensures.stepped (subst (λ (q : Request _ _). NotesCandidate q c.step.new.goals c.step.new.goals) (sym c.in-Done.is) refl) s.entries)
       g.D.Cx.Result.PartialEq.eq g.met.D.Cx.Result.Eq.laws.refl g.met.D.Cx.Cx.one_sort (g.met.D.Cx.Cx.clash c.args.cache.now.cx) (g.met.D.Delegate.yes_is_proved c.args.cache.now.cx) (g.met.D.Delegate.no_is_refuted c.args.cache.now.cx) c.has_runs.ensures
-      c.finish_run.new.self.limits_met c.finish_run.ensures.meets;
+      c.finish_run.new.evaluation.limits_met c.finish_run.ensures.meets;
   settles = λ call w needs s. no_ok c.from_residual-in_err-next-in-Done.result _ _ c.from_residual-in_err-next-in-Done.ensures.1;
   leaves = λ call w needs s.
       if_err_then c.from_residual-in_err-next-in-Done.result
@@ -312,7 +315,7 @@ returns-in_ok-next-in-Done-clause-settled g c = record {
       (noted_settles g.D.Delegate g.D.Cx.Cx c.cx-cx.result g.D.Cx.Input.PartialEq.eq c.args.cache.now.nodes c.args.cache.now.results c.args.evaluation.now.provisional call c.args.evaluation.now.limits_met c.args.received c.in_ok-request.request c.args.evaluation.now.goals c.step.new.goals c.step.new.goals c.in_ok-request.ensures.stepped s.answer (subst (λ (q : Request _ _). NotesCandidate q c.step.new.goals c.step.new.goals) (sym c.in-Done.is) refl) s.settling)
       (stepped_entries g.D.Delegate g.D.Cx.Cx g.D.Cx.Input.PartialEq.eq c.args.cache.now.cx c.cx-cx.result c.cx-cx.ensures call c.args.received c.in_ok-request.request c.args.cache.now.results c.args.evaluation.now.goals c.step.new.goals c.step.new.goals c.args.evaluation.now.provisional c.in_ok-request.ensures.stepped (subst (λ (q : Request _ _). NotesCandidate q c.step.new.goals c.step.new.goals) (sym c.in-Done.is) refl) s.entries)
       g.D.Cx.Result.PartialEq.eq g.met.D.Cx.Result.Eq.laws.refl g.met.D.Cx.Cx.one_sort (g.met.D.Cx.Cx.clash c.args.cache.now.cx) (g.met.D.Delegate.yes_is_proved c.args.cache.now.cx) (g.met.D.Delegate.no_is_refuted c.args.cache.now.cx) c.has_runs.ensures
-      c.finish_run.new.self.limits_met c.finish_run.ensures.meets;
+      c.finish_run.new.evaluation.limits_met c.finish_run.ensures.meets;
   settles = λ call w needs s.
       led_settles g.D.Delegate g.D.Cx.Cx g.D.Cx.Input.PartialEq.eq g.met.D.Cx.Cx.same_input c.args.cache.now (record c.args.evaluation.now { goals = c.step.new.goals }) (g.D.Delegate.starts c.step.new.inspect) call _ (g.D.Delegate.noop c.step.new.inspect) c.in-Done.outcome
       (needs_with g.D.Delegate g.D.Cx.Cx c.args.cache.now.cx call (g.D.Delegate.noop c.args.inspect.now) (g.D.Delegate.noop c.step.new.inspect) c.step.ensures.same_noop needs)
@@ -321,7 +324,7 @@ returns-in_ok-next-in-Done-clause-settled g c = record {
       (noted_settles g.D.Delegate g.D.Cx.Cx c.cx-cx.result g.D.Cx.Input.PartialEq.eq c.args.cache.now.nodes c.args.cache.now.results c.args.evaluation.now.provisional call c.args.evaluation.now.limits_met c.args.received c.in_ok-request.request c.args.evaluation.now.goals c.step.new.goals c.step.new.goals c.in_ok-request.ensures.stepped s.answer (subst (λ (q : Request _ _). NotesCandidate q c.step.new.goals c.step.new.goals) (sym c.in-Done.is) refl) s.settling)
       (stepped_entries g.D.Delegate g.D.Cx.Cx g.D.Cx.Input.PartialEq.eq c.args.cache.now.cx c.cx-cx.result c.cx-cx.ensures call c.args.received c.in_ok-request.request c.args.cache.now.results c.args.evaluation.now.goals c.step.new.goals c.step.new.goals c.args.evaluation.now.provisional c.in_ok-request.ensures.stepped (subst (λ (q : Request _ _). NotesCandidate q c.step.new.goals c.step.new.goals) (sym c.in-Done.is) refl) s.entries)
       g.D.Cx.Result.PartialEq.eq g.met.D.Cx.Result.Eq.laws.refl g.met.D.Cx.Cx.one_sort (g.met.D.Cx.Cx.clash c.args.cache.now.cx) (g.met.D.Delegate.yes_is_proved c.args.cache.now.cx) (g.met.D.Delegate.no_is_refuted c.args.cache.now.cx) c.has_runs.ensures
-      c.in_ok-next-in-Done.next c.finish_run.new.cache c.finish_run.new.self c.in_ok-next-in-Done.ensures.leads;
+      c.in_ok-next-in-Done.next c.finish_run.new.cache c.finish_run.new.evaluation c.in_ok-next-in-Done.ensures.leads;
   leaves = λ call w needs s. tt;
 }
 
@@ -349,10 +352,10 @@ returns-in_ok-note_candidate-in_default-clause-settled g c = record {
 -- ---- the nodes of stored results
 
 pub returns-in_err-next-in-Evaluate-clause-noted : goal.returns-in_err-next-in-Evaluate-clause-noted
-returns-in_err-next-in-Evaluate-clause-noted g c = noted_same g.D.Cx.Input.PartialEq.eq c.args.cache.now c.ask.new.cache c.args.evaluation.now.drafts c.ask.new.self.drafts c.ask.ensures.same_drafts c.ask.ensures.keeps.nodes c.ask.ensures.same_results c.ask.ensures.keeps.results
+returns-in_err-next-in-Evaluate-clause-noted g c = noted_same g.D.Cx.Input.PartialEq.eq c.args.cache.now c.ask.new.cache c.args.evaluation.now.drafts c.ask.new.evaluation.drafts c.ask.ensures.same_drafts c.ask.ensures.keeps.nodes c.ask.ensures.same_results c.ask.ensures.keeps.results
 
 pub returns-in_ok-next-in-Evaluate-clause-noted : goal.returns-in_ok-next-in-Evaluate-clause-noted
-returns-in_ok-next-in-Evaluate-clause-noted g c = noted_same g.D.Cx.Input.PartialEq.eq c.args.cache.now c.ask.new.cache c.args.evaluation.now.drafts c.ask.new.self.drafts c.ask.ensures.same_drafts c.ask.ensures.keeps.nodes c.ask.ensures.same_results c.ask.ensures.keeps.results
+returns-in_ok-next-in-Evaluate-clause-noted g c = noted_same g.D.Cx.Input.PartialEq.eq c.args.cache.now c.ask.new.cache c.args.evaluation.now.drafts c.ask.new.evaluation.drafts c.ask.ensures.same_drafts c.ask.ensures.keeps.nodes c.ask.ensures.same_results c.ask.ensures.keeps.results
 
 pub returns-in_err-next-in-Done-clause-noted : goal.returns-in_err-next-in-Done-clause-noted
 returns-in_err-next-in-Done-clause-noted g c = c.finish_run.ensures.stores.noted
@@ -369,12 +372,12 @@ returns-in_err-request-clause-lasts g c =
     (step_has_cause g.D.Delegate g.D.Cx.Cx g.D.Cx.Input.PartialEq.eq c.args.cache.now c.args.evaluation.now.drafts c.args.received c.args.evaluation.now.goals _ c.args.evaluation.now.limits_met c.requires.reply.call c.requires.reply.right.fits c.requires.reply.waiting c.cx-cx.result c.cx-cx.ensures _ c.in_err-request.ensures.fault))
 
 pub returns-in_err-next-in-Evaluate-clause-lasts : goal.returns-in_err-next-in-Evaluate-clause-lasts
-returns-in_err-next-in-Evaluate-clause-lasts g c = if_err_and c.from_residual-in_err-next-in-Evaluate.result _ _ c.from_residual-in_err-next-in-Evaluate.ensures.1 (λ e is. memory_lasts g.D.Delegate g.D.Cx.Cx g.D.Cx.Input.PartialEq.eq c.ask.new.cache c.ask.new.self.drafts _ is)
+returns-in_err-next-in-Evaluate-clause-lasts g c = if_err_and c.from_residual-in_err-next-in-Evaluate.result _ _ c.from_residual-in_err-next-in-Evaluate.ensures.1 (λ e is. memory_lasts g.D.Delegate g.D.Cx.Cx g.D.Cx.Input.PartialEq.eq c.ask.new.cache c.ask.new.evaluation.drafts _ is)
 
 pub returns-in_err-next-in-Done-clause-lasts : goal.returns-in_err-next-in-Done-clause-lasts
 returns-in_err-next-in-Done-clause-lasts g c =
     if_err_and c.from_residual-in_err-next-in-Done.result _ _ c.from_residual-in_err-next-in-Done.ensures.1
-    (λ e is. subst (HasLastingCause g.D.Delegate g.D.Cx.Cx g.D.Cx.Input.PartialEq.eq c.finish_run.new.cache c.finish_run.new.self.drafts) (sym is) c.in_err-next-in-Done.ensures.stores.fails.caused)
+    (λ e is. subst (HasLastingCause g.D.Delegate g.D.Cx.Cx g.D.Cx.Input.PartialEq.eq c.finish_run.new.cache c.finish_run.new.evaluation.drafts) (sym is) c.in_err-next-in-Done.ensures.stores.fails.caused)
 
 pub returns-in_err-note_candidate-in_default-clause-lasts : goal.returns-in_err-note_candidate-in_default-clause-lasts
 returns-in_err-note_candidate-in_default-clause-lasts g c =

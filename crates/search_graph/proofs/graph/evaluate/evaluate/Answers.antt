@@ -7,7 +7,7 @@ use Rattle.search_rules.specs.Words.{answered_by, CallNeedsTwoRuns, fate_for}
 use Rattle.search_rules.proofs.moves.LookUps.{nothing_stored, something_stored, stored_over_none}
 use Rattle.search_rules.proofs.moves.Questions.{if_ok_then}
 use Rattle.search_rules.proofs.moves.StoredAnswers.{stored_ends}
-use Rattle.search_moves.specs.Settled.{IsSettledStore}
+use Rattle.between_moves.specs.Settled.{IsSettledStore}
 use Rattle.search_graph.proofs.requests.SettledSteps.{begins_unmet, begins_unscoped, needs_with, none_found, top_is_not_lone}
 use Rattle.search_graph.proofs.turns.Turns.{leaves_nothing}
 use Rattle.search_graph.proofs.graph.evaluate.evaluate.Goals as goal

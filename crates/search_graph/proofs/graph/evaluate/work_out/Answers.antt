@@ -2,17 +2,17 @@ use Rattle.std.proofs.Common.{arith, [], ◌≡◌, ◌∙◌, length, false, No
 use Rattle.search_context.proofs.Builders.{builder_goes_on}
 use Rattle.search_graph.specs.Below.{fates_of, HaveExpected, IsFated, MovesFates, stored_at, AreFrom, Begin, Finished, Step, Awaits, Call, HasReply, IsCaused, IsRightFor, LeadsTo, OutOfMemory, runs_of, StopsWith, work_left}
 use Rattle.search_rules.proofs.records.EarlierNodes.{first_there, stay_pushed}
-use Rattle.search_moves.proofs.results.Keeping.{appending_keeps}
+use Rattle.between_moves.proofs.Keeping.{appending_keeps}
 use Rattle.search_graph.proofs.turns.Beginning.{begins_right, begins_waiting, never_pushed, new_right}
 use Rattle.search_graph.proofs.turns.Turns.{begins_drafts, then_turns}
 use Rattle.search_graph.specs.Turns.{IsRightTurn}
-use Rattle.search_moves.specs.Drafts.{LeavesReached}
+use Rattle.search_state.specs.Drafts.{LeavesReached}
 use Rattle.search_rules.proofs.moves.Questions.{if_err_and, no_ok}
 use Rattle.search_graph.proofs.turns.KeptFates.{not_stored, first_fates, only_stores, then_fates, then_recorded, then_spared}
 use Rattle.search_graph.proofs.turns.Loops.{call_of, only_one, some_call_begins, only_has_graph}
 use Rattle.graph_nodes.proofs.Finished.{KeepsFinished-nodes}
-use Rattle.search_moves.proofs.two_runs.SettledFaults.{settled_stays}
-use Rattle.search_moves.specs.Settled.{IsSettledStore, Settles, SettlesNext}
+use Rattle.between_moves.proofs.SettledStores.{settled_stays}
+use Rattle.between_moves.specs.Settled.{IsSettledStore, Settles, SettlesNext}
 use Rattle.search_rules.specs.Settled.{CallNeedsTwoRuns}
 use Rattle.search_graph.proofs.requests.SettledSteps.{begins_settles, begins_unmet, needs_with}
 use Rattle.search_graph.proofs.graph.evaluate.work_out.Goals as goal
@@ -24,36 +24,36 @@ returns-in_err-push_goal-clause-evaluates g c = record {
   ended = λ call at. no_ok c.from_residual.result _ _ c.from_residual.ensures.1;
   stopped = λ call at.
       if_err_and c.from_residual.result _ _ c.from_residual.ensures.1
-      (λ e is. subst (λ fault. StopsWith g.D.Delegate g.D.Cx.Cx g.D.Cx.Input.PartialEq.eq c.args.cache.now.cx call fault c.push_goal.new.cache c.push_goal.new.self (g.D.Delegate.starts c.push_goal.new.inspect)) (sym is)
-      (never_pushed g.D.Delegate g.D.Cx.Cx g.D.Cx.Input.PartialEq.eq c.args.cache.now.cx c.args.step_kind c.args.input c.args.cache.now c.args.evaluation.now c.requires.outset.new c.args.evaluation.now.root_depth c.push_goal.new.cache c.push_goal.new.self (g.D.Delegate.starts c.args.inspect.now) _ c.push_goal.ensures.cache c.push_goal.ensures.rest c.push_goal.ensures.starts.builder.at_least c.push_goal.ensures.starts.at_most call at));
+      (λ e is. subst (λ fault. StopsWith g.D.Delegate g.D.Cx.Cx g.D.Cx.Input.PartialEq.eq c.args.cache.now.cx call fault c.push_goal.new.cache c.push_goal.new.evaluation (g.D.Delegate.starts c.push_goal.new.inspect)) (sym is)
+      (never_pushed g.D.Delegate g.D.Cx.Cx g.D.Cx.Input.PartialEq.eq c.args.cache.now.cx c.args.step_kind c.args.input c.args.cache.now c.args.evaluation.now c.requires.outset.new c.args.evaluation.now.root_depth c.push_goal.new.cache c.push_goal.new.evaluation (g.D.Delegate.starts c.args.inspect.now) _ c.push_goal.ensures.cache c.push_goal.ensures.rest c.push_goal.ensures.starts.builder.at_least c.push_goal.ensures.starts.at_most call at));
 }
 
 pub loop-next-init : goal.loop-next-init
 loop-next-init g c = record {
   waiting = λ call at.
-      subst (λ given. Awaits g.D.Delegate g.D.Cx.Cx g.D.Cx.Input.PartialEq.eq c.args.cache.now.cx call given c.push_goal.new.cache c.push_goal.new.self (g.D.Delegate.starts c.push_goal.new.inspect)) (sym c.without_node-received.ensures)
-      (subst (λ cache. Awaits g.D.Delegate g.D.Cx.Cx g.D.Cx.Input.PartialEq.eq c.args.cache.now.cx call (record { reply = Begin; node = None }) cache c.push_goal.new.self (g.D.Delegate.starts c.push_goal.new.inspect)) (sym c.push_goal.ensures.cache)
+      subst (λ given. Awaits g.D.Delegate g.D.Cx.Cx g.D.Cx.Input.PartialEq.eq c.args.cache.now.cx call given c.push_goal.new.cache c.push_goal.new.evaluation (g.D.Delegate.starts c.push_goal.new.inspect)) (sym c.without_node-received.ensures)
+      (subst (λ cache. Awaits g.D.Delegate g.D.Cx.Cx g.D.Cx.Input.PartialEq.eq c.args.cache.now.cx call (record { reply = Begin; node = None }) cache c.push_goal.new.evaluation (g.D.Delegate.starts c.push_goal.new.inspect)) (sym c.push_goal.ensures.cache)
       (subst (λ e. Awaits g.D.Delegate g.D.Cx.Cx g.D.Cx.Input.PartialEq.eq c.args.cache.now.cx call (record { reply = Begin; node = None }) (record c.args.cache.now { nodes = c.push_goal.new.cache.nodes }) e (g.D.Delegate.starts c.push_goal.new.inspect)) (sym c.push_goal.ensures.rest)
-      (begins_waiting g.D.Delegate g.D.Cx.Cx g.D.Cx.Input.PartialEq.eq c.args.cache.now.cx c.args.step_kind c.args.input c.args.cache.now c.args.evaluation.now c.requires.outset.new c.args.evaluation.now.root_depth c.push_goal.new.self.goals c.push_goal.new.cache.nodes c.in_ok-push_goal.ensures.pushed (g.D.Delegate.starts c.args.inspect.now) _ c.push_goal.ensures.starts.at_most c.in_ok-push_goal.ensures.starts.counted call at)));
+      (begins_waiting g.D.Delegate g.D.Cx.Cx g.D.Cx.Input.PartialEq.eq c.args.cache.now.cx c.args.step_kind c.args.input c.args.cache.now c.args.evaluation.now c.requires.outset.new c.args.evaluation.now.root_depth c.push_goal.new.evaluation.goals c.push_goal.new.cache.nodes c.in_ok-push_goal.ensures.pushed (g.D.Delegate.starts c.args.inspect.now) _ c.push_goal.ensures.starts.at_most c.in_ok-push_goal.ensures.starts.counted call at)));
   right =
-      subst (λ given. IsRightFor g.D.Delegate g.D.Cx.Cx g.D.Cx.Input.PartialEq.eq c.args.cache.now.cx given c.push_goal.new.cache c.push_goal.new.self) (sym c.without_node-received.ensures)
-      (subst (λ cache. IsRightFor g.D.Delegate g.D.Cx.Cx g.D.Cx.Input.PartialEq.eq c.args.cache.now.cx (record { reply = Begin; node = None }) cache c.push_goal.new.self) (sym c.push_goal.ensures.cache)
+      subst (λ given. IsRightFor g.D.Delegate g.D.Cx.Cx g.D.Cx.Input.PartialEq.eq c.args.cache.now.cx given c.push_goal.new.cache c.push_goal.new.evaluation) (sym c.without_node-received.ensures)
+      (subst (λ cache. IsRightFor g.D.Delegate g.D.Cx.Cx g.D.Cx.Input.PartialEq.eq c.args.cache.now.cx (record { reply = Begin; node = None }) cache c.push_goal.new.evaluation) (sym c.push_goal.ensures.cache)
       (subst (λ e. IsRightFor g.D.Delegate g.D.Cx.Cx g.D.Cx.Input.PartialEq.eq c.args.cache.now.cx (record { reply = Begin; node = None }) (record c.args.cache.now { nodes = c.push_goal.new.cache.nodes }) e) (sym c.push_goal.ensures.rest)
-      (begins_right g.D.Delegate g.D.Cx.Cx g.D.Cx.Input.PartialEq.eq c.args.cache.now.cx c.args.step_kind c.args.input c.args.cache.now c.args.evaluation.now c.requires.outset.new c.args.evaluation.now.root_depth c.push_goal.new.self.goals c.push_goal.new.cache.nodes c.in_ok-push_goal.ensures.pushed c.has_sound_results.ensures)));
+      (begins_right g.D.Delegate g.D.Cx.Cx g.D.Cx.Input.PartialEq.eq c.args.cache.now.cx c.args.step_kind c.args.input c.args.cache.now c.args.evaluation.now c.requires.outset.new c.args.evaluation.now.root_depth c.push_goal.new.evaluation.goals c.push_goal.new.cache.nodes c.in_ok-push_goal.ensures.pushed c.has_sound_results.ensures)));
   keeps = appending_keeps g.D.Cx.Input.PartialEq.eq c.args.evaluation.now.goals c.args.cache.now c.push_goal.new.cache c.push_goal.ensures.cache c.push_goal.ensures.kept;
-  from = stay_pushed g.D.Delegate g.D.Cx.Cx c.args.cache.now.cx c.args.cache.now.nodes c.args.evaluation.now.goals c.push_goal.new.self.goals c.args.input c.args.step_kind c.args.evaluation.now.root_depth c.push_goal.new.cache.nodes c.in_ok-push_goal.ensures.pushed (length c.args.cache.now.nodes) (omega arith) (subst (AreFrom (length c.args.cache.now.nodes)) (sym c.requires.outset.new.no_goals) tt);
+  from = stay_pushed g.D.Delegate g.D.Cx.Cx c.args.cache.now.cx c.args.cache.now.nodes c.args.evaluation.now.goals c.push_goal.new.evaluation.goals c.args.input c.args.step_kind c.args.evaluation.now.root_depth c.push_goal.new.cache.nodes c.in_ok-push_goal.ensures.pushed (length c.args.cache.now.nodes) (omega arith) (subst (AreFrom (length c.args.cache.now.nodes)) (sym c.requires.outset.new.no_goals) tt);
   drafts =
-      begins_drafts g.D.Cx.Cx g.D.Cx.Input.PartialEq.eq (g.D.Delegate.script c.args.cache.now.cx) c.args.cache.now c.push_goal.new.cache c.args.evaluation.now c.push_goal.new.self c.requires.outset.no_drafts c.has_runs.ensures c.has_sound_results.ensures c.push_goal.ensures.cache c.push_goal.ensures.kept (ap (λ e. e.drafts) c.push_goal.ensures.rest)
-      (stay_pushed g.D.Delegate g.D.Cx.Cx c.args.cache.now.cx c.args.cache.now.nodes c.args.evaluation.now.goals c.push_goal.new.self.goals c.args.input c.args.step_kind c.args.evaluation.now.root_depth c.push_goal.new.cache.nodes c.in_ok-push_goal.ensures.pushed (length c.args.cache.now.nodes) (omega arith) (subst (AreFrom (length c.args.cache.now.nodes)) (sym c.requires.outset.new.no_goals) tt));
+      begins_drafts g.D.Cx.Cx g.D.Cx.Input.PartialEq.eq (g.D.Delegate.script c.args.cache.now.cx) c.args.cache.now c.push_goal.new.cache c.args.evaluation.now c.push_goal.new.evaluation c.requires.outset.no_drafts c.has_runs.ensures c.has_sound_results.ensures c.push_goal.ensures.cache c.push_goal.ensures.kept (ap (λ e. e.drafts) c.push_goal.ensures.rest)
+      (stay_pushed g.D.Delegate g.D.Cx.Cx c.args.cache.now.cx c.args.cache.now.nodes c.args.evaluation.now.goals c.push_goal.new.evaluation.goals c.args.input c.args.step_kind c.args.evaluation.now.root_depth c.push_goal.new.cache.nodes c.in_ok-push_goal.ensures.pushed (length c.args.cache.now.nodes) (omega arith) (subst (AreFrom (length c.args.cache.now.nodes)) (sym c.requires.outset.new.no_goals) tt));
   first = ap (λ e. e.drafts.first) c.push_goal.ensures.rest ∙ c.requires.outset.no_drafts.first;
   builder = c.push_goal.ensures.starts.builder;
   settled = λ stored not_lone call at needs settled.
-      subst (λ given. Settles g.D.Delegate g.D.Cx.Cx g.D.Cx.Input.PartialEq.eq c.args.cache.now.cx call given c.push_goal.new.cache c.push_goal.new.self) (sym c.without_node-received.ensures)
-      (subst (λ cache. Settles g.D.Delegate g.D.Cx.Cx g.D.Cx.Input.PartialEq.eq c.args.cache.now.cx call (record { reply = Begin; node = None }) cache c.push_goal.new.self) (sym c.push_goal.ensures.cache)
+      subst (λ given. Settles g.D.Delegate g.D.Cx.Cx g.D.Cx.Input.PartialEq.eq c.args.cache.now.cx call given c.push_goal.new.cache c.push_goal.new.evaluation) (sym c.without_node-received.ensures)
+      (subst (λ cache. Settles g.D.Delegate g.D.Cx.Cx g.D.Cx.Input.PartialEq.eq c.args.cache.now.cx call (record { reply = Begin; node = None }) cache c.push_goal.new.evaluation) (sym c.push_goal.ensures.cache)
       (subst (λ e. Settles g.D.Delegate g.D.Cx.Cx g.D.Cx.Input.PartialEq.eq c.args.cache.now.cx call (record { reply = Begin; node = None }) (record c.args.cache.now { nodes = c.push_goal.new.cache.nodes }) e) (sym c.push_goal.ensures.rest)
-      (begins_settles g.D.Delegate g.D.Cx.Cx g.D.Cx.Input.PartialEq.eq g.met.D.Cx.Cx.same_input g.met.D.Cx.Input.Eq.laws.refl c.args.cache.now.cx c.args.step_kind c.args.input c.args.cache.now c.args.evaluation.now c.requires.outset.new c.args.evaluation.now.root_depth c.push_goal.new.self.goals c.push_goal.new.cache.nodes c.in_ok-push_goal.ensures.pushed c.args.fate c.in_ok-push_goal.ensures.fates c.has_sound_results.ensures stored not_lone call
+      (begins_settles g.D.Delegate g.D.Cx.Cx g.D.Cx.Input.PartialEq.eq g.met.D.Cx.Cx.same_input g.met.D.Cx.Input.Eq.laws.refl c.args.cache.now.cx c.args.step_kind c.args.input c.args.cache.now c.args.evaluation.now c.requires.outset.new c.args.evaluation.now.root_depth c.push_goal.new.evaluation.goals c.push_goal.new.cache.nodes c.in_ok-push_goal.ensures.pushed c.args.fate c.in_ok-push_goal.ensures.fates c.has_sound_results.ensures stored not_lone call
       (begins_unmet g.D.Delegate g.D.Cx.Cx c.args.cache.now.cx call _ _ _ _ _ needs at.outset) settled)));
-  fates = first_fates (g.D.Delegate.scoped c.args.cache.now.cx) (g.D.Delegate.script c.args.cache.now.cx) g.D.Cx.Input.PartialEq.eq (g.D.Delegate.noop c.args.inspect.now) c.args.input c.args.fate c.args.cache.now.results c.args.evaluation.now.root_depth.0 c.args.evaluation.now.goals c.push_goal.new.self.goals c.push_goal.new.cache.results c.requires.outset.new.no_goals c.in_ok-push_goal.ensures.fates c.requires.fated (ap (λ cache. cache.results) c.push_goal.ensures.cache);
+  fates = first_fates (g.D.Delegate.scoped c.args.cache.now.cx) (g.D.Delegate.script c.args.cache.now.cx) g.D.Cx.Input.PartialEq.eq (g.D.Delegate.noop c.args.inspect.now) c.args.input c.args.fate c.args.cache.now.results c.args.evaluation.now.root_depth.0 c.args.evaluation.now.goals c.push_goal.new.evaluation.goals c.push_goal.new.cache.results c.requires.outset.new.no_goals c.in_ok-push_goal.ensures.fates c.requires.fated (ap (λ cache. cache.results) c.push_goal.ensures.cache);
 }
 
 -- ---- a move is made

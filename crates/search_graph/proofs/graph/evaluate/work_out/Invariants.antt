@@ -1,6 +1,6 @@
 use Rattle.std.proofs.Common.{◌≡◌, length}
 use Rattle.run_records.specs.declared.runs.Fate.TheVariants as becomes
-use Rattle.search_moves.specs.Settled.{IsSettledStore, Settles}
+use Rattle.between_moves.specs.Settled.{IsSettledStore, Settles}
 use Rattle.search_rules.specs.Words.{CallNeedsTwoRuns, IsLone}
 use Rattle.search_graph.specs.Below.{AreFrom, Awaits, Begins, Call, IsRightFor, KeepsBuilder, KeepsCache, work_left}
 use Rattle.search_graph.specs.Fates.{KeepsFates}

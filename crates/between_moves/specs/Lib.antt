@@ -1,0 +1,3 @@
+pub mod Evaluations
+pub mod Settled
+pub mod Below

@@ -1,0 +1,3 @@
+pub mod moves
+pub mod results
+pub mod two_runs

@@ -1,0 +1,31 @@
+-- A goal is popped with its result.
+use Rattle.std.specs.Prelude.{Bool, Option}
+use Rattle.search_ends.specs.Below.{DelegateOf, CxOf, RebaseReason, Next, Cache, IsDefinite, verdicts, IsRight, IsRightNext}
+use Rattle.search_state.specs.declared.evaluation.Evaluation.{Evaluation}
+use Rattle.search_rules.specs.Moves.{CanLeave, LeavesNested, NewestLeaves}
+use Rattle.search_rules.specs.Provisional.{HasReason, IsNewestUnranked, RebasesNewest}
+use Rattle.search_rules.specs.Results.{IsNewestStored, NewestComesTo, NewestIsPlain, StoresNewest}
+use Rattle.search_rules.specs.Runs.{EndsNewest, HasNewestNode, node_given}
+
+module _ {D C V P F I R A T : Type 0} (G : DelegateOf D C V P F I R A T) (X : CxOf C I R A T) (same : I → I → Bool) (outcome : R) (reason : Option (RebaseReason C I R A T)) (old : Cache C I R A T) (before : Evaluation D C V P F I R A T) where
+  -- The newest goal may be popped with the result: a definite one is that of its run; the goal came to it, and it is plain where
+  -- the goal has a rank; the reason is true of the goal.
+  pub record MayPop : Type 0 where
+    pub leaves : CanLeave before.goals
+    pub ends : IsDefinite (verdicts X) outcome → EndsNewest (verdicts X) (G.script old.cx) before.goals outcome
+    pub comes : NewestComesTo (G.script old.cx) (G.fixpoint_overflow old.cx) before.goals outcome
+    pub plain : NewestIsPlain (G.script old.cx) before.goals outcome
+    pub is_reason : HasReason (verdicts X) reason before.goals outcome
+    pub unranked : IsNewestUnranked (G.script old.cx) before.goals
+    pub right : IsRight G X same old.cx old before
+
+  -- It was popped: its result is the answer to the goal below it, with its nested goals, or to the call, and comes with its node; the
+  -- answer is stored if it rests on no goal, and else becomes a provisional entry; entries that rested on the goal are rebased.
+  pub record Pops (next : Next R) (new : Cache C I R A T) (after : Evaluation D C V P F I R A T) : Type 0 where
+    pub left : NewestLeaves outcome before.goals next after.goals
+    pub node : HasNewestNode (verdicts X) old.nodes new.nodes before.goals outcome (node_given next)
+    pub nested : LeavesNested same before.goals after.goals
+    pub stored : IsNewestStored same (X.token old.cx) before.goals outcome (node_given next) new.results
+    pub puts : StoresNewest same before.goals outcome (node_given next) old.results new.results
+    pub rebased : RebasesNewest same G.ENABLE_PROVISIONAL_CACHE (G.propagated old.cx) (G.fixpoint_overflow old.cx) reason outcome (node_given next) before.goals before.provisional after.provisional
+    pub right : IsRightNext G X same old.cx before.goals next new after

@@ -1,0 +1,46 @@
+-- What the end of the newest goal's run leads to.
+use Rattle.std.specs.Prelude.{◌≡◌, ◌||◌, Bool, true, false, Option, None, Some, Result, Ok, Err}
+use Rattle.std.specs.Option.{option_map}
+use Rattle.search_ends.specs.Below.{Again, AtLimit, Begin, Cache, CxOf, DelegateOf, IsEndOfRun, newest, Next, Overflow, RebaseReason, Run, StackEntry, Step, Unstable}
+use Rattle.search_state.specs.declared.evaluation.Evaluation.{Evaluation}
+use Rattle.search_ends.specs.Popped.{Pops}
+use Rattle.search_ends.specs.RunAgain.{RunsAgain}
+
+-- whether this end is that of a goal that had its most runs
+abbrev pub is_at_limit : {C I R A T : Type 0} → Result (Option (RebaseReason C I R A T)) Unstable → Bool
+is_at_limit (Err AtLimit) = true
+is_at_limit _ = false
+
+module _ {D C V P F I R A T : Type 0} (G : DelegateOf D C V P F I R A T) (same_result : R → R → Bool) (outcome : R) (before : Evaluation D C V P F I R A T) where
+  -- the newest goal, whose run came to the result, has this entry and run, and this becomes of it
+  pub record ComesToEnd (entry : StackEntry C I R A T) (run : Run C F I R A T) (end : Result (Option (RebaseReason C I R A T)) Unstable) : Type 0 where
+    pub is_entry : option_map (λ s. s.0) (newest before.goals) ≡ Some entry
+    pub is_run : option_map (λ s. s.1) (newest before.goals) ≡ Some run
+    pub ends : IsEndOfRun same_result G.initial_kind G.ambiguity G.FIXPOINT_STEP_LIMIT entry.state.provisional_result entry.state.usages run.finished_runs outcome end
+
+  -- a limit was met before, or is met now since the goal had its most runs
+  pub record MeetsLimitAtEnd (met : Bool) : Type 0 where
+    pub entry : StackEntry C I R A T
+    pub run : Run C F I R A T
+    pub end : Result (Option (RebaseReason C I R A T)) Unstable
+    pub comes : ComesToEnd entry run end
+    pub is : met ≡ (before.limits_met || is_at_limit end)
+
+module _ {D C V P F I R A T : Type 0} (G : DelegateOf D C V P F I R A T) (X : CxOf C I R A T) (same : I → I → Bool) (same_result : R → R → Bool) (outcome : R) (old : Cache C I R A T) (before : Evaluation D C V P F I R A T) where
+  -- A goal that is done is popped with its result, for the reason why it needs no further run. One that had its most runs meets a
+  -- limit, and is popped with the overflow result, for that reason. Any other is run again.
+  pub data RunLeads (next : Next R) (new : Cache C I R A T) (after : Evaluation D C V P F I R A T) : Type 0 where
+    IsDone :
+        (entry : StackEntry C I R A T) (run : Run C F I R A T) (reason : Option (RebaseReason C I R A T))
+        → ComesToEnd G same_result outcome before entry run (Ok reason) → Pops G X same outcome reason old before next new after
+        → after.limits_met ≡ before.limits_met → RunLeads next new after
+    HadMostRuns :
+        (entry : StackEntry C I R A T) (run : Run C F I R A T)
+        → ComesToEnd G same_result outcome before entry run (Err AtLimit)
+        → Pops G X same (G.fixpoint_overflow old.cx entry.input) (Some Overflow) old (record before { limits_met = true }) next new after
+        → after.limits_met ≡ true → RunLeads next new after
+    IsRunAgain :
+        (entry : StackEntry C I R A T) (run : Run C F I R A T)
+        → ComesToEnd G same_result outcome before entry run (Err Again) → RunsAgain G X same outcome old before new after
+        → next ≡ Step (record { reply = Begin; node = None })
+        → after.limits_met ≡ before.limits_met → RunLeads next new after

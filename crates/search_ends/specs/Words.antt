@@ -1,0 +1,5 @@
+-- The words of this crate, from one place.
+pub use Rattle.search_ends.specs.Popped.{MayPop, Pops}
+pub use Rattle.search_ends.specs.RunAgain.{MayRunAgain, RunsAgain}
+pub use Rattle.search_ends.specs.Storing.{ChangesResults, Fails, IsStorable, MayStore, PutsAnswer, Stores, StoresOrFails}
+pub use Rattle.search_ends.specs.RunEnded.{ComesToEnd, HadMostRuns, IsDone, IsRunAgain, MeetsLimitAtEnd, RunLeads}

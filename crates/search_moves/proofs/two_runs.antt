@@ -1,6 +1,0 @@
--- What each move keeps where two runs of a goal are enough.
-pub mod OneKind
-pub mod KeptEntries
-pub mod Settling
-pub mod SettledEnds
-pub mod SettledFaults

@@ -1,0 +1,3 @@
+pub mod moves
+pub mod nodes
+pub mod two_runs

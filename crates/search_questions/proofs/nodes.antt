@@ -1,0 +1,2 @@
+-- What holds still when nodes are let go.
+pub mod LettingGo

@@ -1,0 +1,4 @@
+pub mod Asked
+pub mod Collecting
+pub mod Below
+pub mod Words

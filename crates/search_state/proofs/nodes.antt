@@ -1,0 +1,2 @@
+-- Which nodes a call notes.
+pub mod Noting
