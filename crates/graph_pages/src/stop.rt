@@ -2,25 +2,35 @@
 ghost use Rattle.std.specs.Prelude.{◌≡◌};
 ghost use Rattle.graph_pages.specs.Stop.{status_after};
 
+use graph_data::DataFault;
 use line_texts::InputFault;
 use rule_tables::ReadFault;
 use search_context::context::NoMemory;
 use std::alloc::{AllocError, AllocFailed};
-use std::io;
 use std::io::Write;
-use thiserror::Error;
+use std::{fmt, io};
 
 /// Why the program ended early.
-#[derive(Clone, Copy, Debug, Error)]
+#[derive(Clone, Copy, Debug)]
 pub enum Stop {
-    #[error("line {0}: bad line")]
+    /// This line is malformed.
     BadLine(usize),
-    #[error("byte {0}: bad data")]
+    /// Before this byte the data has something that is not wanted there.
     BadData(usize),
-    #[error("input or output failed")]
     InputOrOutput,
-    #[error("out of memory")]
     Memory,
+}
+
+impl fmt::Display for Stop {
+    fn fmt<W: fmt::Write>(&self, f: &mut fmt::Formatter<W>) -> fmt::Result {
+        let (part, number, fault) = match *self {
+            Stop::BadLine(number) => ("line", number, "bad line"),
+            Stop::BadData(number) => ("byte", number, "bad data"),
+            Stop::InputOrOutput => return f.write_str("input or output failed"),
+            Stop::Memory => return f.write_str("out of memory"),
+        };
+        write!(f, "{part} {number}: {fault}")
+    }
 }
 
 impl Stop {
@@ -65,6 +75,19 @@ impl From<NoMemory> for Stop {
 
     fn from(_error: NoMemory) -> Stop {
         Stop::Memory
+    }
+}
+
+impl From<DataFault> for Stop {
+    ghost use Rattle.graph_pages.specs.Stop.{stopped_data};
+
+    ghost from_gives = { λ fault stop. stop ≡ stopped_data fault };
+
+    fn from(fault: DataFault) -> Stop {
+        match fault {
+            DataFault::BadData(place) => Stop::BadData(place),
+            DataFault::Memory => Stop::Memory,
+        }
     }
 }
 
