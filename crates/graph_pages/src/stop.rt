@@ -7,30 +7,21 @@ use line_texts::InputFault;
 use rule_tables::ReadFault;
 use search_context::context::NoMemory;
 use std::alloc::{AllocError, AllocFailed};
+use std::io;
 use std::io::Write;
-use std::{fmt, io};
+use thiserror::Error;
 
 /// Why the program ended early.
-#[derive(Clone, Copy, Debug)]
+#[derive(Clone, Copy, Debug, Error)]
 pub enum Stop {
-    /// This line is malformed.
+    #[error("line {0}: bad line")]
     BadLine(usize),
-    /// Before this byte the data has something that is not wanted there.
+    #[error("byte {0}: bad data")]
     BadData(usize),
+    #[error("input or output failed")]
     InputOrOutput,
+    #[error("out of memory")]
     Memory,
-}
-
-impl fmt::Display for Stop {
-    fn fmt<W: fmt::Write>(&self, f: &mut fmt::Formatter<W>) -> fmt::Result {
-        let (part, number, fault) = match *self {
-            Stop::BadLine(number) => ("line", number, "bad line"),
-            Stop::BadData(number) => ("byte", number, "bad data"),
-            Stop::InputOrOutput => return f.write_str("input or output failed"),
-            Stop::Memory => return f.write_str("out of memory"),
-        };
-        write!(f, "{part} {number}: {fault}")
-    }
 }
 
 impl Stop {
