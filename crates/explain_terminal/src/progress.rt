@@ -1,8 +1,8 @@
 //! Progress on standard error.
 
-use graph_pages::Progress;
 use std::io::{IsTerminal, Write};
 use std::time::Instant;
+use watched_runs::Progress;
 
 /// Tells progress on standard error, on a line for each second that has passed. Where standard error is no terminal, nothing
 /// is told.

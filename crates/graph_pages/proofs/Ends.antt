@@ -8,9 +8,10 @@ use Rattle.json.specs.Token.{Token}
 use Rattle.rule_tables.specs.Frame.{script_of}
 use Rattle.graph_pages.proofs.Named.{claims_named}
 use Rattle.graph_pages.specs.Below.{candidates_of, CxOf, DelegateOf, Goal, IsFirstBadLine, Outcome, Reads, Rules, Table, verdicts}
-use Rattle.graph_pages.specs.Data.{plain_claim}
-use Rattle.graph_pages.specs.Page.{IsPage}
-use Rattle.graph_pages.specs.Program.{EndsChecking, EndsShowing, IsJudgedPage, IsPageText, ShowsAnswers}
+use Rattle.graph_data.specs.Data.{plain_claim}
+use Rattle.graph_data.specs.Page.{IsPage}
+use Rattle.graph_pages.specs.Program.{EndsChecking, EndsShowing, IsJudgedPage, ShowsAnswers}
+use Rattle.graph_data.specs.Page.{IsPageText}
 use Rattle.graph_pages.specs.Shown.{AreShown, HasClaims}
 use Rattle.graph_pages.specs.Stop.{status_after, status_of}
 use Rattle.graph_pages.specs.Told.{AreJudged}
@@ -19,7 +20,7 @@ use Rattle.graph_pages.specs.declared.form.Form.TheVariants as form
 use Rattle.graph_pages.specs.declared.page.Page.{Page}
 use Rattle.graph_pages.specs.declared.stop.Stop.{Stop}
 use Rattle.graph_pages.specs.declared.stop.Stop.TheVariants.{BadData, BadLine, InputOrOutput, Memory}
-use Rattle.graph_pages.specs.declared.reading.Claim.{Claim}
+use Rattle.graph_data.specs.declared.reading.Claim.{Claim}
 
 -- ---- statuses
 

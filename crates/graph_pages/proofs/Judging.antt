@@ -10,7 +10,7 @@ use Rattle.std.specs.List.{list_all}
 use Rattle.graph_pages.specs.Below.{Goal, Outcome, Reply, Request, Rules, Verdicts}
 use Rattle.graph_pages.specs.Told.{AreJudged, IsJudged, is_not_refused, line_said}
 use Rattle.graph_pages.specs.declared.program.checking.Said.{Said}
-use Rattle.graph_pages.specs.declared.reading.Claim.{Claim}
+use Rattle.graph_data.specs.declared.reading.Claim.{Claim}
 
 module _ (says : Verdicts Outcome) (scripts : Goal → List (Reply Outcome) → Request Goal Outcome) (table : Rules) where
   -- nothing is told yet

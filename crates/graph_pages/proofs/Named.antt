@@ -18,12 +18,13 @@ use Rattle.search_context.specs.Graph.{HasEdge, HasGoal, IsWalk, question_of}
 use Rattle.search_context.specs.Run.{Asked, progress_after, progress_with, Progress, open_candidate, request_after}
 use Rattle.search_context.specs.Valid.{goal_node_of, goal_nodes_of, IsRunOfSort, IsValid}
 use Rattle.search_context.specs.declared.context.Edge.{Edge}
-use Rattle.graph_pages.proofs.Lists.{AllByRecursion-append}
+use Rattle.graph_data.proofs.Lists.{AllByRecursion-append}
 use Rattle.graph_pages.specs.Checked.{AreReached, IsRightlyShown, IsShownGraph}
 use Rattle.path_kinds.specs.declared.path.PathKind.{PathKind}
 use Rattle.path_kinds.specs.declared.path.PathKind.TheVariants.{Coinductive, Inductive}
 use Rattle.graph_pages.specs.Below.{candidates_of, Goal, Maybe, names_of, No, Node, number_of, Outcome, Overflow, questions_of, Reply, Request, Rules, Verdicts, Yes}
-use Rattle.graph_pages.specs.Data.{goal_text, IsClaim, IsNamed, IsNode, IsTarget, plain_node, PlainClaim}
+use Rattle.graph_texts.specs.Words.{goal_text}
+use Rattle.graph_data.specs.Data.{IsClaim, IsNamed, IsNode, IsTarget, plain_node, PlainClaim}
 use Rattle.graph_pages.specs.Shown.{WereAsked, claims_of}
 use Rattle.graph_pages.specs.declared.answer.Came.{Came}
 use Rattle.graph_pages.specs.declared.answer.Came.TheVariants.{Graph, NoGraph, Unchecked, Fault}

@@ -18,23 +18,24 @@ use Rattle.search_context.specs.Valid.{AreClosed, CyclesHaveKind, goal_nodes_of,
 use Rattle.search_context.specs.declared.context.Verdict.TheVariants as verdict
 use Rattle.json.specs.Lex.{tokens}
 use Rattle.rule_tables.specs.Frame.{script_of}
-use Rattle.graph_pages.proofs.Lists.{AllByRecursion-append}
+use Rattle.graph_data.proofs.Lists.{AllByRecursion-append}
 use Rattle.graph_pages.proofs.Newline.{newline_passed}
-use Rattle.graph_pages.proofs.Pages.{page_told}
-use Rattle.graph_pages.proofs.SameRules.{same_script}
+use Rattle.graph_data.proofs.Pages.{page_told}
+use Rattle.graph_data.proofs.SameRules.{same_script}
 use Rattle.graph_pages.specs.Below.{candidates_of, CxOf, DelegateOf, Goal, names_of, Node, Outcome, Reply, Request, Rules, Table, Verdict, verdicts, Verdicts}
 use Rattle.graph_pages.specs.Checked.{IsRightlyShown, verdict_of}
-use Rattle.graph_pages.specs.Data.{IsClaim, IsNamed, IsNode, plain_claim, plain_node, PlainClaim, PlainNode}
-use Rattle.graph_pages.specs.Page.{IsPage}
+use Rattle.graph_data.specs.Data.{IsClaim, IsNamed, IsNode, plain_claim, plain_node, PlainClaim, PlainNode}
+use Rattle.graph_data.specs.Page.{IsPage}
 use Rattle.graph_pages.specs.Program.{ReadsBack, IsJudgedPage, IsReadBack, ShowsAnswers}
-use Rattle.graph_pages.specs.Rules.{AreSameRules}
-use Rattle.graph_pages.specs.Shown.{claims_of, IsWrittenPage}
+use Rattle.graph_data.specs.Rules.{AreSameRules}
+use Rattle.graph_pages.specs.Shown.{claims_of}
+use Rattle.graph_data.specs.Page.{IsWrittenPage}
 use Rattle.graph_pages.specs.declared.form.Form.TheVariants.{Data}
 use Rattle.graph_pages.specs.Told.{IsJudged, is_not_refused}
 use Rattle.graph_pages.specs.declared.answer.Came.{Came}
 use Rattle.graph_pages.specs.declared.answer.Came.TheVariants.{Graph, NoGraph, Unchecked, Fault}
 use Rattle.graph_pages.specs.declared.program.checking.Said.{Said}
-use Rattle.graph_pages.specs.declared.reading.Claim.{Claim}
+use Rattle.graph_data.specs.declared.reading.Claim.{Claim}
 
 -- ---- where lists lie makes no graph valid
 

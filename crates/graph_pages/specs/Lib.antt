@@ -1,11 +1,6 @@
 pub mod Below
 pub mod Checked
-pub mod Data
-pub mod Page
-pub mod Plan
 pub mod Program
-pub mod Rules
 pub mod Shown
 pub mod Stop
 pub mod Told
-pub mod Watch

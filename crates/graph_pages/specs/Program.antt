@@ -2,23 +2,18 @@
 use Rattle.std.specs.Prelude.{◌≡◌, ℕ, Bool, true, List, map, Option, Some, IfSome, IsSomeAnd, ⊤}
 use Rattle.std.specs.Borrow.{Bor}
 use Rattle.std.specs.Io.KnownBytes.{Keeps}
-use Rattle.std.specs.Str.{IsUtf8}
 use Rattle.json.specs.Lex.{tokens}
 use Rattle.graph_pages.specs.Below.{CxOf, DelegateOf, Goal, IsFirstBadLine, Outcome, questions_of, Reads, Rules, Table, verdicts}
-use Rattle.graph_pages.specs.Data.{plain_claim, PlainClaim}
-use Rattle.graph_pages.specs.Page.{AreOfPage, IsPage}
-use Rattle.graph_pages.specs.Rules.{AreSameRules}
-use Rattle.graph_pages.specs.Shown.{WereAsked, IsWrittenPage}
+use Rattle.graph_data.specs.Data.{plain_claim, PlainClaim}
+use Rattle.graph_data.specs.Page.{IsPage, IsPageText, IsWrittenPage}
+use Rattle.graph_data.specs.Rules.{AreSameRules}
+use Rattle.graph_pages.specs.Shown.{WereAsked}
 use Rattle.graph_pages.specs.Told.{AreJudged}
 use Rattle.graph_pages.specs.declared.form.Form.{Form}
 use Rattle.graph_pages.specs.declared.form.Form.TheVariants.{Data}
 use Rattle.graph_pages.specs.declared.stop.Stop.{Stop}
 use Rattle.graph_pages.specs.declared.stop.Stop.TheVariants.{BadData, BadLine, InputOrOutput, Memory}
-use Rattle.graph_pages.specs.declared.reading.Claim.{Claim}
-
--- the text is a page of data
-abbrev pub IsPageText : List ℕ → Type 0
-IsPageText text = IsUtf8 text × AreOfPage (tokens text)
+use Rattle.graph_data.specs.declared.reading.Claim.{Claim}
 
 module _ (known old new : Option (List ℕ)) where
   -- Showing ends early: where the text has a bad line, nothing is written.

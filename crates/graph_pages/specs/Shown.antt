@@ -1,15 +1,10 @@
 -- What was shown of questions.
-use Rattle.std.specs.Prelude.{◌≡◌, ℕ, ◌++◌, All, Bool, true, false, codes, List, [], ◌∷◌, map, Option}
-use Rattle.std.specs.Io.KnownBytes.{Appends}
+use Rattle.std.specs.Prelude.{◌≡◌, ℕ, All, Bool, true, false, List, [], ◌∷◌, map, Option}
 use Rattle.std.specs.List.{flat_map, list_all}
-use Rattle.std.specs.Str.{IsUtf8}
-use Rattle.json.specs.Lex.{tokens}
-use Rattle.json.specs.Token.{Token}
-use Rattle.json.specs.Written.{Written}
-use Rattle.graph_pages.specs.Below.{Goal, names_of, Outcome, questions_of, Reads, Reply, Request, Rules, Verdicts}
+use Rattle.graph_pages.specs.Below.{Goal, Outcome, questions_of, Reply, Request, Rules, Verdicts}
 use Rattle.graph_pages.specs.Checked.{IsRightlyShown}
-use Rattle.graph_pages.specs.Data.{claim_tokens, IsClaim, list_tokens, plain_node, PlainClaim}
-use Rattle.graph_pages.specs.Page.{begun_page, IsPage, text_of}
+use Rattle.graph_data.specs.Data.{plain_node, PlainClaim}
+use Rattle.graph_data.specs.Page.{IsBegun, WritesPage}
 use Rattle.graph_pages.specs.declared.answer.Came.{Came}
 use Rattle.graph_pages.specs.declared.answer.Came.TheVariants.{Graph, NoGraph, Unchecked, Fault}
 use Rattle.graph_pages.specs.declared.page.Page.{Page}
@@ -37,29 +32,11 @@ pub record WereAsked (says : Verdicts Outcome) (scripts : Goal → List (Reply O
   pub are_claims : claims ≡ flat_map (λ a. claims_of a.0 a.1) asked
   pub fine : all_fine ≡ list_all (λ a. is_fine a.1) asked
 
--- The writer has the beginning of a page, with lines that make the rules, and these claims.
-pub record IsBegun (rules : Rules) (writer : Written) (claims : List PlainClaim) : Type 0 where
-  pub lines : List (List ℕ)
-  pub reads : Reads (text_of lines) rules
-  pub alone : writer.before ≡ []
-  pub spelled : (rest : List Token) → writer.tokens ++ rest ≡ begun_page lines (list_tokens (claim_tokens (names_of rules)) claims rest)
-
 -- It is a page of data that has the rules and these claims.
 abbrev pub HasClaims : Rules → Page → List PlainClaim → Type 0
 HasClaims rules (page.Text depth waiting) claims = ⊥
 HasClaims rules (page.Dot count waiting) claims = ⊥
 HasClaims rules (page.Data writer) claims = IsBegun rules writer claims
-
--- The text of a page was written, and a newline. The page has the rules and these claims.
-pub record IsWrittenPage (rules : Rules) (claims : List PlainClaim) (old new : Option (List ℕ)) : Type 0 where
-  pub text : List ℕ
-  pub is_utf8 : IsUtf8 text
-  pub is_page : IsPage (tokens text) rules claims
-  pub written : Appends old new (text ++ codes "\n")
-
--- It was, if each goal in the claims has a name.
-abbrev pub WritesPage : Rules → List PlainClaim → Option (List ℕ) → Option (List ℕ) → Type 0
-WritesPage rules claims old new = All (IsClaim (names_of rules)) claims → IsWrittenPage rules claims old new
 
 -- All questions were asked. Of a page of data that had the rules and no claims yet, the whole is written, with the claims of
 -- their answers in order.

@@ -1,5 +1,7 @@
 -- Why the program ended early.
-use Rattle.std.specs.Prelude.{ℕ, Bool, true, false, Result, Ok, Err, ⊤}
+use Rattle.std.specs.Prelude.{ℕ, Bool, true, false, Result, Ok, Err}
+use Rattle.graph_data.specs.declared.fault.DataFault.{DataFault}
+use Rattle.graph_data.specs.declared.fault.DataFault.TheVariants as read_back
 use Rattle.line_texts.specs.declared.input.InputFault.{InputFault}
 use Rattle.line_texts.specs.declared.input.InputFault.TheVariants as input
 use Rattle.rule_tables.specs.declared.reading.ReadFault.{ReadFault}
@@ -30,15 +32,7 @@ abbrev pub stopped_input : InputFault → Stop
 stopped_input input.Failed = InputOrOutput
 stopped_input input.Memory = Memory
 
-abbrev pub IsBadData : Stop → Type 0
-IsBadData (BadLine n) = ⊥
-IsBadData (BadData n) = ⊤
-IsBadData InputOrOutput = ⊥
-IsBadData Memory = ⊥
-
--- Reading data stops where memory is out. Else the data is bad, and this does not hold of it.
-abbrev pub StopsUnless : Type 0 → Stop → Type 0
-StopsUnless P (BadLine n) = ⊥
-StopsUnless P (BadData n) = ¬ P
-StopsUnless P InputOrOutput = ⊥
-StopsUnless P Memory = ⊤
+-- what a fault of reading data stops
+abbrev pub stopped_data : DataFault → Stop
+stopped_data (read_back.BadData n) = BadData n
+stopped_data read_back.Memory = Memory

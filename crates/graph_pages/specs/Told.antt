@@ -8,7 +8,7 @@ use Rattle.search_context.specs.declared.context.Verdict.TheVariants as verdict
 use Rattle.graph_pages.specs.Checked.{verdict_of}
 use Rattle.graph_pages.specs.declared.program.checking.Said.{Said}
 use Rattle.graph_pages.specs.declared.program.checking.Said.TheVariants.{Accepted, NoGraph, Refused}
-use Rattle.graph_pages.specs.declared.reading.Claim.{Claim}
+use Rattle.graph_data.specs.declared.reading.Claim.{Claim}
 
 -- what is said of a claim
 abbrev pub said_words : Said → List ℕ

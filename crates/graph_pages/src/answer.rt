@@ -3,13 +3,12 @@ ghost use Rattle.std.specs.Prelude.{◌↔◌, IfOk, IsTrue};
 ghost use Rattle.graph_pages.specs.Below.{IsValidFor, verdicts};
 ghost use Rattle.graph_pages.specs.Checked.{ShowsNoGraph, verdict_of};
 
-use crate::progress::Progress;
-use crate::watch::{Reason, Watcher};
 use delegate_parts::Builder;
 use graph_check::check_graph;
 use rule_tables::{Goal, Outcome};
 use search_context::context::{Cx, Delegate, Fault, NoMemory, Node, ProofGraph};
 use std::alloc::Global;
+use watched_runs::{Progress, Reason, Watcher};
 
 /// What a question came to.
 #[derive(Drop)]

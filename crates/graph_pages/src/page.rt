@@ -3,18 +3,17 @@ ghost use Rattle.std.specs.Prelude.{◌≡◌, ◌∷◌, ◌++◌, ◌⊎◌, [
 ghost use Rattle.std.specs.Io.KnownBytes.{Keeps};
 ghost use Rattle.std.specs.Option.{option_map_or};
 ghost use Rattle.graph_pages.specs.Below.{Goal as SpecGoal, Reads, Rules as SpecRules};
-ghost use Rattle.graph_pages.specs.Data.{plain_node, PlainClaim};
-ghost use Rattle.graph_pages.specs.Shown.{claims_of, HasClaims, IsBegun, WritesPage};
+ghost use Rattle.graph_data.specs.Data.{plain_node, PlainClaim};
+ghost use Rattle.graph_pages.specs.Shown.{claims_of, HasClaims};
+ghost use Rattle.graph_data.specs.Page.{IsBegun, WritesPage};
 
 use crate::answer::Came;
-use crate::data::{word, write_answer, write_end as end_data, write_start as start_data};
-use crate::dot::{write_cluster, write_end as end_dot, write_start as start_dot};
 use crate::form::Form;
 use crate::reason::write_reason;
 use crate::stop::Stop;
-use crate::text::write_text;
-use crate::watch::Reason;
-use crate::words::name_of;
+use graph_data::writing::{write_answer, write_end as end_data, write_start as start_data};
+use graph_texts::dot::{END, START, write_cluster};
+use graph_texts::{name_of, write_text};
 use json::Writer;
 use rule_tables::{Goal, Outcome, Rules};
 use search_context::context::{Fault, Node};
@@ -42,7 +41,7 @@ impl Page {
         match form {
             Form::Text { depth } => Ok(Page::Text { depth, waiting }),
             Form::Dot => {
-                start_dot(&mut waiting).map_err(|_| Stop::Memory)?;
+                waiting.extend_from_slice(START)?;
                 Ok(Page::Dot { count: 0, waiting })
             }
             Form::Data => {
@@ -62,12 +61,12 @@ impl Page {
     {
         match self {
             Page::Text { depth, waiting } => {
-                add_text(alloc, waiting, rules, goal, came, *depth).map_err(|_| Stop::Memory)
+                in_memory(add_text(alloc, waiting, rules, goal, came, *depth))
             }
             Page::Dot { count, waiting } => {
                 let number = *count;
                 *count = number.saturating_add(1);
-                add_dot(waiting, rules, number, goal, came).map_err(|_| Stop::Memory)
+                in_memory(add_dot(waiting, rules, number, goal, came))
             }
             Page::Data(writer) => {
                 add_data(writer, rules, goal, came)?;
@@ -100,14 +99,24 @@ impl Page {
     {
         match self {
             Page::Text { waiting, .. } => out.write_all(waiting.as_slice())?,
-            Page::Dot { mut waiting, .. } => {
-                end_dot(&mut waiting).map_err(|_| Stop::Memory)?;
+            Page::Dot { waiting, .. } => {
                 out.write_all(waiting.as_slice())?;
+                out.write_all(END)?;
             }
             Page::Data(writer) => finish_data(writer, out)?,
         }
         out.flush()?;
         Ok(())
+    }
+}
+
+// What a list of bytes refuses is memory.
+fn in_memory(written: io::Result<()>) -> Result<(), Stop>
+    ensures { IfErr result (λ stop. stop ≡ Stop.Memory) }
+{
+    match written {
+        Ok(()) => Ok(()),
+        Err(_) => Err(Stop::Memory),
     }
 }
 
@@ -173,47 +182,18 @@ fn add_text<W: Write>(
     came: &Came,
     depth: usize,
 ) -> io::Result<()> {
-    match came {
-        Came::Graph { nodes, .. } => write_text(alloc, out, rules, nodes, depth)?,
-        Came::NoGraph { outcome, reason } => add_no_graph(out, rules, goal, *outcome, *reason)?,
-        Came::Unchecked(outcome) => add_unchecked(out, rules, goal, *outcome)?,
-        Came::Fault(fault) => add_fault(out, rules, goal, *fault)?,
-    }
+    let name = name_of(rules, goal);
+    let written = match came {
+        Came::Graph { nodes, .. } => write_text(alloc, out, rules, nodes, depth),
+        Came::NoGraph { outcome, reason } => write_reason(out, rules, goal, *outcome, *reason),
+        Came::Unchecked(outcome) => writeln!(out, "{name} {outcome} unchecked"),
+        Came::Fault(fault) => {
+            let word = fault_word(*fault);
+            writeln!(out, "{name} fault {word}")
+        }
+    };
+    written?;
     out.write_all(b"\n")
-}
-
-fn add_no_graph<W: Write>(
-    out: &mut W,
-    rules: &Rules,
-    goal: Goal,
-    outcome: Outcome,
-    reason: Reason,
-) -> io::Result<()> {
-    let name = name_of(rules, goal);
-    let word = word(outcome);
-    writeln!(out, "{name} is {word}")?;
-    write_reason(out, rules, goal, reason)
-}
-
-fn add_unchecked<W: Write>(
-    out: &mut W,
-    rules: &Rules,
-    goal: Goal,
-    outcome: Outcome,
-) -> io::Result<()> {
-    let name = name_of(rules, goal);
-    writeln!(out, "{name} {outcome} unchecked")
-}
-
-fn add_fault<W: Write>(
-    out: &mut W,
-    rules: &Rules,
-    goal: Goal,
-    fault: Fault<Goal, Outcome>,
-) -> io::Result<()> {
-    let name = name_of(rules, goal);
-    let word = fault_word(fault);
-    writeln!(out, "{name} fault {word}")
 }
 
 fn fault_word(fault: Fault<Goal, Outcome>) -> &'static str {

@@ -1,11 +1,11 @@
 //! The program that checks graphs which are read as data.
 ghost use Rattle.std.specs.Prelude.{◌≡◌, ◌≤◌, ◌==◌, IsSomeAnd};
 ghost use Rattle.std.specs.Io.KnownBytes.{Keeps};
-ghost use Rattle.graph_pages.specs.Program.{IsJudgedPage, IsPageText};
+ghost use Rattle.graph_pages.specs.Program.{IsJudgedPage};
+ghost use Rattle.graph_data.specs.Page.{IsPageText};
 
 mod checking;
 
-use crate::progress::Progress;
 use crate::stop::status_told;
 use checking::check_input;
 use rule_tables::delegate::Table;
@@ -13,6 +13,7 @@ use rule_tables::{Rules, TableDelegate};
 use search_context::context::{Cx, Delegate};
 use std::alloc::Global;
 use std::io::{Read, Write};
+use watched_runs::Progress;
 
 /// Reads graphs as data, as `explain` writes them in the form `Data`, and says of each on a line whether the checker accepts it:
 /// `A yes accepted`, `A no refused`, or `A maybe without a graph`.

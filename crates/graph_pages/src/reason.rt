@@ -1,56 +1,67 @@
 //! Why an answer is neither yes nor no, in words.
 
-use crate::watch::{Cause, Cut, Reason};
-use crate::words::{letter, name_of};
-use rule_tables::{Goal, Rules};
+use graph_texts::{letter, name_of};
+use rule_tables::{Goal, Outcome, Rules};
 use search_context::path::PathKind;
 use std::io;
 use std::io::Write;
+use watched_runs::{Cause, Cut, Reason};
 
-/// Writes a line that says why the goal came to neither yes nor no.
+/// Writes what the goal came to, and on a second line why this is neither yes nor no.
 pub(crate) fn write_reason<W: Write>(
     out: &mut W,
     rules: &Rules,
     goal: Goal,
+    outcome: Outcome,
     reason: Reason,
 ) -> io::Result<()> {
     let name = name_of(rules, goal);
-    match reason {
-        Reason::Cut(cut) => write_cut(out, rules, cut),
-        Reason::Runs => writeln!(out, "  {name} had its most runs"),
-        Reason::Known => writeln!(out, "  {name} was worked out before"),
-    }
+    let words = match reason {
+        Reason::Cut(cut) => return write_cut(out, rules, name, outcome, cut),
+        Reason::Runs => "had its most runs",
+        Reason::Known => "was worked out before",
+    };
+    writeln!(out, "{name} is {outcome}\n  {name} {words}")
 }
 
-fn write_cut<W: Write>(out: &mut W, rules: &Rules, cut: Cut) -> io::Result<()> {
+fn write_cut<W: Write>(
+    out: &mut W,
+    rules: &Rules,
+    name: &str,
+    outcome: Outcome,
+    cut: Cut,
+) -> io::Result<()> {
     let letter = letter(cut.kind);
     let asked = name_of(rules, cut.asked);
     let by = name_of(rules, cut.by);
-    write!(out, "  cut off at {letter}:{asked} of {by}")?;
-    write_cause(out, asked, cut.cause)
+    let (why, named, end) = cause_words(cut.cause, asked);
+    writeln!(
+        out,
+        "{name} is {outcome}\n  cut off at {letter}:{asked} of {by}{why}{named}{end}"
+    )
 }
 
-// Why it was cut off, at the end of the line.
-fn write_cause<W: Write>(out: &mut W, asked: &str, cause: Cause) -> io::Result<()> {
+// Why it was cut off, at the end of the line: what stands before the asked goal's name, this where it is named again, and
+// what follows.
+fn cause_words<'a>(cause: Cause, asked: &'a str) -> (&'static str, &'a str, &'static str) {
     match cause {
-        Cause::Depth { or_runs: false } => writeln!(out, ", which had no depth left"),
-        Cause::Depth { or_runs: true } => {
-            writeln!(
-                out,
-                ", which had no depth left, or {asked} had its most runs before"
-            )
-        }
-        Cause::Runs => writeln!(out, ": {asked} had its most runs"),
-        Cause::Cycle(kind) => out.write_all(cycle_words(kind)),
-        Cause::Known => writeln!(out, ": {asked} came to maybe before"),
+        Cause::Depth { or_runs: false } => (", which had no depth left", "", ""),
+        Cause::Depth { or_runs: true } => (
+            ", which had no depth left, or ",
+            asked,
+            " had its most runs before",
+        ),
+        Cause::Runs => (": ", asked, " had its most runs"),
+        Cause::Cycle(kind) => (cycle_words(kind), "", ""),
+        Cause::Known => (": ", asked, " came to maybe before"),
     }
 }
 
 // A cycle of another kind is answered maybe only in a further run, by what the last one came to.
-fn cycle_words(kind: PathKind) -> &'static [u8] {
+fn cycle_words(kind: PathKind) -> &'static str {
     match kind {
-        PathKind::Unknown => b": a cycle of unknown kind\n",
-        PathKind::ForcedAmbiguity => b": a cycle of forced ambiguity\n",
-        PathKind::Inductive | PathKind::Coinductive => b": a cycle that came to maybe before\n",
+        PathKind::Unknown => ": a cycle of unknown kind",
+        PathKind::ForcedAmbiguity => ": a cycle of forced ambiguity",
+        PathKind::Inductive | PathKind::Coinductive => ": a cycle that came to maybe before",
     }
 }

@@ -2,6 +2,7 @@
 ghost use Rattle.std.specs.Prelude.{◌≡◌};
 ghost use Rattle.graph_pages.specs.Stop.{status_after};
 
+use graph_data::DataFault;
 use line_texts::InputFault;
 use rule_tables::ReadFault;
 use search_context::context::NoMemory;
@@ -65,6 +66,19 @@ impl From<NoMemory> for Stop {
 
     fn from(_error: NoMemory) -> Stop {
         Stop::Memory
+    }
+}
+
+impl From<DataFault> for Stop {
+    ghost use Rattle.graph_pages.specs.Stop.{stopped_data};
+
+    ghost from_gives = { λ fault stop. stop ≡ stopped_data fault };
+
+    fn from(fault: DataFault) -> Stop {
+        match fault {
+            DataFault::BadData(place) => Stop::BadData(place),
+            DataFault::Memory => Stop::Memory,
+        }
     }
 }
 

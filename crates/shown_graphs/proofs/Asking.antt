@@ -9,8 +9,9 @@ use Rattle.std.specs.Io.KnownBytes.{Appends, Keeps}
 use Rattle.std.specs.List.{list_all}
 use Rattle.shown_graphs.specs.Below.{Goal, Outcome, questions_of, Reply, Request, Rules, Verdicts}
 use Rattle.graph_pages.specs.Checked.{IsRightlyShown}
-use Rattle.graph_pages.specs.Data.{PlainClaim}
-use Rattle.graph_pages.specs.Shown.{WereAsked, AreShown, claims_of, HasClaims, is_fine, WritesPage}
+use Rattle.graph_data.specs.Data.{PlainClaim}
+use Rattle.graph_pages.specs.Shown.{WereAsked, AreShown, claims_of, HasClaims, is_fine}
+use Rattle.graph_data.specs.Page.{WritesPage}
 use Rattle.graph_pages.specs.declared.answer.Came.{Came}
 use Rattle.graph_pages.specs.declared.page.Page.{Page}
 

@@ -10,7 +10,7 @@ use Rattle.search_context.proofs.Graphs.{Contains-map, HasEdge-from, IsReached-s
 use Rattle.search_context.specs.Graph.{HasEdge, IsReached, IsWalk, original_edge}
 use Rattle.search_context.specs.Valid.{goal_node_of, goal_nodes_of}
 use Rattle.search_context.specs.declared.context.Edge.{Edge}
-use Rattle.graph_pages.proofs.Lists.{item_at}
+use Rattle.graph_data.proofs.Lists.{item_at}
 use Rattle.shown_graphs.specs.Below.{Goal, Node, Outcome}
 use Rattle.graph_pages.specs.Checked.{AreReached}
 

@@ -4,13 +4,14 @@ ghost use Rattle.shown_graphs.specs.Below.{verdicts};
 ghost use Rattle.graph_pages.specs.Checked.{IsRightlyShown};
 
 use delegate_parts::Builder;
-use graph_pages::{Came, Progress, Watcher, Watching, accepts, without_graph};
+use graph_pages::{Came, accepts, without_graph};
 use rule_tables::{Goal, Outcome};
 use search_context::context::{Answer, Cx, Delegate, Fault, NoMemory};
 use search_context::path::PathKind;
 use search_graph::graph::SearchGraph;
 use search_parts::global_cache::GlobalCache;
 use std::alloc::Global;
+use watched_runs::{Progress, Watcher, Watching};
 
 /// Asks the goal at this depth, and checks the graph of a definite answer. The watcher is that of all questions over the
 /// cache.

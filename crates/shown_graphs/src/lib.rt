@@ -5,5 +5,6 @@
 mod answer;
 mod program;
 
-pub use graph_pages::{Form, NoProgress, Progress, check};
+pub use graph_pages::{Form, check};
 pub use program::{explain, explain_within};
+pub use watched_runs::{NoProgress, Progress};

@@ -6,13 +6,14 @@ ghost use Rattle.graph_pages.specs.Program.{ShowsAnswers};
 
 mod showing;
 
-use graph_pages::{Form, Progress, status_told};
+use graph_pages::{Form, status_told};
 use rule_tables::delegate::Table;
 use rule_tables::{Rules, TableDelegate};
 use search_context::context::{Cx, Delegate};
 use showing::show_input;
 use std::alloc::Global;
 use std::io::{Read, Write};
+use watched_runs::Progress;
 
 /// Reads rules and questions, as `goals` does, and shows of each question in turn what it came to, with the graph of a yes or
 /// no. Each graph is handed out by the search, and shown only if the checker, which knows nothing of the search, accepts it.

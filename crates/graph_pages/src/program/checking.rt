@@ -6,17 +6,17 @@ ghost use Rattle.graph_pages.specs.Program.{EndsChecking, IsJudgedPage};
 ghost use Rattle.graph_pages.specs.Told.{AreJudged, IsJudged, line_said};
 
 use crate::answer::accepts;
-use crate::progress::Progress;
-use crate::reading::{Claim, Claims, claims_of_text};
 use crate::stop::Stop;
 use delegate_parts::Builder;
+use graph_data::reading::{Claim, Claims, claims_of_text};
 use line_texts::read_input;
 use rule_tables::delegate::Table;
 use rule_tables::{Goal, Outcome, Rules, TableDelegate};
-use search_context::context::{Cx, Delegate, NoMemory, Node, ProofGraph};
+use search_context::context::{Cx, Delegate, NoMemory, ProofGraph};
 use std::alloc::Global;
 use std::io::{Read, Write};
 use std::{fmt, io};
+use watched_runs::Progress;
 
 /// Whether no graph was refused.
 pub(super) fn check_input<R: Read, W: Write, P: Progress>(
@@ -63,12 +63,8 @@ where
     let mut none_refused = true;
     let mut done: usize = 0;
     for claim in claims {
-        let Claim {
-            goal,
-            outcome,
-            nodes,
-        } = claim;
-        let said = judged::<X, D>(alloc, cx, goal, outcome, nodes)?;
+        let (goal, outcome) = (claim.goal, claim.outcome);
+        let said = judged::<X, D>(alloc, cx, claim)?;
         none_refused &= said.is_no_refusal();
         done = done.saturating_add(1);
         progress.note(done, 0);
@@ -115,19 +111,17 @@ impl fmt::Display for Said {
     }
 }
 
-fn judged<X, D>(
-    alloc: Global,
-    cx: X,
-    goal: Goal,
-    outcome: Outcome,
-    nodes: Vec<Node<Goal, Outcome>>,
-) -> Result<Said, NoMemory>
+fn judged<X, D>(alloc: Global, cx: X, claim: Claim) -> Result<Said, NoMemory>
 where
     X: Cx<Input = Goal, Result = Outcome>,
     D: Delegate<Cx = X, ProofTreeBuilder = Builder>,
-    ensures { IfOk result (λ said. IsJudged (verdicts X.Cx) (D.script cx)
-        (record { goal = goal; outcome = outcome; nodes = nodes }) said) }
+    ensures { IfOk result (IsJudged (verdicts X.Cx) (D.script cx) claim) }
 {
+    let Claim {
+        goal,
+        outcome,
+        nodes,
+    } = claim;
     if nodes.is_empty() && matches!(outcome, Outcome::Maybe | Outcome::Overflow) {
         return Ok(Said::NoGraph);
     }

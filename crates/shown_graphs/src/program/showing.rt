@@ -6,7 +6,7 @@ ghost use Rattle.graph_pages.specs.Shown.{AreShown};
 
 use crate::answer::ask;
 use delegate_parts::Builder;
-use graph_pages::{Form, Page, Progress, Stop, Watcher, Watching};
+use graph_pages::{Form, Page, Stop};
 use line_texts::read_input;
 use rule_tables::delegate::Table;
 use rule_tables::{Goal, Outcome, Rules, TableDelegate};
@@ -14,6 +14,7 @@ use search_context::context::{Cx, Delegate};
 use search_parts::global_cache::GlobalCache;
 use std::alloc::Global;
 use std::io::{Read, Write};
+use watched_runs::{Progress, Watcher, Watching};
 
 /// Whether each question was answered, and no graph refused.
 pub(super) fn show_input<const LIMIT: usize, R: Read, W: Write, P: Progress>(

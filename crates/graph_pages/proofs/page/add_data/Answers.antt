@@ -1,4 +1,4 @@
-use Rattle.graph_pages.proofs.Written.{claims_added}
+use Rattle.graph_data.proofs.Written.{claims_added}
 use Rattle.graph_pages.proofs.page.add_data.Goals as goal
 
 pub returns-in-Some : goal.returns-in-Some

@@ -1,4 +1,4 @@
-use Rattle.graph_pages.proofs.Written.{page_written}
+use Rattle.graph_data.proofs.Written.{page_written}
 use Rattle.graph_pages.proofs.page.finish_data.Goals as goal
 
 pub returns-clause-written : goal.returns-clause-written

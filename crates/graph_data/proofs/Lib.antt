@@ -1,0 +1,14 @@
+pub mod Arrays
+pub mod Left
+pub mod Lines
+pub mod Lists
+pub mod Names
+pub mod Numerals
+pub mod Pages
+pub mod Plain
+pub mod Readback
+pub mod SameRules
+pub mod Spelling
+pub mod Statements
+pub mod Stops
+pub mod Written

@@ -1,0 +1,5 @@
+pub mod Below
+pub mod Data
+pub mod Fault
+pub mod Page
+pub mod Rules

@@ -1,5 +1,0 @@
-use Rattle.graph_pages.proofs.Plans.{walk_again}
-use Rattle.graph_pages.proofs.plan.Walk.again.Goals as goal
-
-pub returns-clause-walk : goal.returns-clause-walk
-returns-clause-walk c = rw c.in_ok-push.ensures.items (walk_again _ _ _ _ _ _ c.requires.marked c.requires.walk)

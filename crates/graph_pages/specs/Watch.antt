@@ -1,7 +1,0 @@
--- What a watcher stands beside.
-use Rattle.delegate_parts.specs.declared.builder.Builder.{Builder}
-use Rattle.graph_pages.specs.declared.watch.Watcher.{Watcher}
-
--- the builder that counts frames
-abbrev pub inner_of : {P : Type 0} → Watcher P → Builder
-inner_of watcher = watcher.inner

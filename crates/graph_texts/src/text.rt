@@ -1,0 +1,215 @@
+//! A graph as indented text.
+
+use crate::plan::{Line, plan};
+use crate::rule::{FIRST_ANSWER, end_of, failing, holding, next_start};
+use crate::words::{letter, name_of, write_rule};
+use rule_tables::{Candidate, Candidates, Goal, Outcome, Rules};
+use search_context::context::{Node, Reply};
+use std::alloc::Global;
+use std::io;
+use std::io::Write;
+
+/// How many levels are indented. A line of a deeper level has its number as well, so that the text grows no faster than
+/// the graph.
+const MOST_LEVELS: usize = 20;
+
+/// The indentation of these.
+const SPACES: &[u8] = b"                                        ";
+
+/// Writes the graph's lines: each goal once, with the rule that proves it or the questions at which its rules fail, and what
+/// it rests on below it. Goals that lie deeper than `most` steps below the root are left out, and the last line says how many.
+pub fn write_text<W: Write>(
+    alloc: Global,
+    out: &mut W,
+    rules: &Rules,
+    nodes: &[Node<Goal, Outcome>],
+    most: usize,
+) -> io::Result<()> {
+    let Ok(lines) = plan(alloc, nodes, most) else {
+        return Err(io::Error::from(io::ErrorKind::OutOfMemory));
+    };
+    let mut left = nodes.len();
+    for line in lines.as_slice() {
+        if let Line::Shown { .. } = *line {
+            left = left.saturating_sub(1);
+        }
+        write_line(out, rules, nodes, *line)?;
+    }
+    if left > 0 {
+        writeln!(out, "goals left out: {left}, which lie deeper than {most}")
+    } else {
+        Ok(())
+    }
+}
+
+fn write_line<W: Write>(
+    out: &mut W,
+    rules: &Rules,
+    nodes: &[Node<Goal, Outcome>],
+    line: Line,
+) -> io::Result<()> {
+    match line {
+        Line::Shown {
+            place,
+            level,
+            number,
+        } => match nodes.get(place) {
+            Some(node) => write_node(out, rules, node, level, number),
+            None => Ok(()),
+        },
+        Line::Again {
+            place,
+            level,
+            number,
+            closes,
+        } => match nodes.get(place) {
+            Some(node) => write_again(out, rules, node, level, number, closes),
+            None => Ok(()),
+        },
+        Line::Cut { place, level } => match nodes.get(place) {
+            Some(node) => write_cut(out, rules, node, level),
+            None => Ok(()),
+        },
+    }
+}
+
+fn write_indentation<W: Write>(out: &mut W, level: usize) -> io::Result<()> {
+    if MOST_LEVELS < level {
+        out.write_all(SPACES)?;
+        write!(out, "[{level}] ")
+    } else {
+        out.write_all(&SPACES[..2 * level])
+    }
+}
+
+// What a node's result says.
+fn says(outcome: Outcome) -> &'static str {
+    match outcome {
+        Outcome::Yes => "holds",
+        Outcome::No => "does not hold",
+        Outcome::Maybe => "is maybe",
+        Outcome::Overflow => "is overflow",
+    }
+}
+
+fn write_node<W: Write>(
+    out: &mut W,
+    rules: &Rules,
+    node: &Node<Goal, Outcome>,
+    level: usize,
+    number: usize,
+) -> io::Result<()> {
+    write_shown(out, rules, node, level, number)?;
+    let candidates = rules.candidates(node.input);
+    if node.result != Outcome::Yes {
+        return write_refutation(out, rules, node, &candidates, level);
+    }
+    if let Some(candidate) = holding(&candidates, &node.replies) {
+        write_rule(out, ", by rule ", rules, node.input, &candidate)?;
+    }
+    out.write_all(b"\n")
+}
+
+// The beginning of the line of a node that is shown.
+fn write_shown<W: Write>(
+    out: &mut W,
+    rules: &Rules,
+    node: &Node<Goal, Outcome>,
+    level: usize,
+    number: usize,
+) -> io::Result<()> {
+    write_indentation(out, level)?;
+    let name = name_of(rules, node.input);
+    let said = says(node.result);
+    if number > 0 {
+        write!(out, "{number} {name} {said}")
+    } else {
+        write!(out, "{name} {said}")
+    }
+}
+
+// The question at which each rule fails, on a line for each.
+fn write_refutation<W: Write>(
+    out: &mut W,
+    rules: &Rules,
+    node: &Node<Goal, Outcome>,
+    candidates: &Candidates<'_>,
+    level: usize,
+) -> io::Result<()> {
+    if candidates.count() == 0 {
+        return out.write_all(b", for it has no rule\n");
+    }
+    out.write_all(b"\n")?;
+    let mut start = FIRST_ANSWER;
+    for place in 0..candidates.count() {
+        let Some(candidate) = candidates.get(place) else {
+            break;
+        };
+        let end = end_of(start, &candidate);
+        let replies = node.replies.get(start..end).unwrap_or(&[]);
+        write_failing(out, rules, node.input, &candidate, replies, level)?;
+        start = next_start(end);
+    }
+    Ok(())
+}
+
+// A rule that fails, one level below its goal, and at which question.
+fn write_failing<W: Write>(
+    out: &mut W,
+    rules: &Rules,
+    goal: Goal,
+    candidate: &Candidate<'_>,
+    replies: &[Reply<Outcome>],
+    level: usize,
+) -> io::Result<()> {
+    write_indentation(out, level.saturating_add(1))?;
+    write_rule(out, "rule ", rules, goal, candidate)?;
+    let Some(place) = failing(replies) else {
+        return out.write_all(b"\n");
+    };
+    let Some(asking) = candidate.question(place) else {
+        return out.write_all(b"\n");
+    };
+    let letter = letter(asking.kind);
+    let name = name_of(rules, asking.goal);
+    writeln!(out, " fails at {letter}:{name}")
+}
+
+// A goal that has its lines elsewhere.
+fn write_again<W: Write>(
+    out: &mut W,
+    rules: &Rules,
+    node: &Node<Goal, Outcome>,
+    level: usize,
+    number: usize,
+    closes: bool,
+) -> io::Result<()> {
+    write_indentation(out, level)?;
+    let name = name_of(rules, node.input);
+    let end = end_of_again(closes, node.result);
+    if number > 0 {
+        writeln!(out, "{name} again, as {number}{end}")
+    } else {
+        writeln!(out, "{name} again{end}")
+    }
+}
+
+fn end_of_again(closes: bool, outcome: Outcome) -> &'static str {
+    match (closes, outcome) {
+        (true, Outcome::Yes) => ": the cycle is coinductive",
+        (true, _) => ": the cycle is inductive",
+        (false, _) => "",
+    }
+}
+
+fn write_cut<W: Write>(
+    out: &mut W,
+    rules: &Rules,
+    node: &Node<Goal, Outcome>,
+    level: usize,
+) -> io::Result<()> {
+    write_indentation(out, level)?;
+    let name = name_of(rules, node.input);
+    let said = says(node.result);
+    writeln!(out, "{name} {said}: left out here")
+}

@@ -1,0 +1,7 @@
+-- What a watcher stands beside.
+use Rattle.delegate_parts.specs.declared.builder.Builder.{Builder}
+use Rattle.watched_runs.specs.declared.watch.Watcher.{Watcher}
+
+-- the builder that counts frames
+abbrev pub inner_of : {P : Type 0} → Watcher P → Builder
+inner_of watcher = watcher.inner

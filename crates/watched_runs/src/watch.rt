@@ -1,0 +1,232 @@
+//! Where answers that are neither yes nor no come from: which question was cut off, and why.
+//!
+//! A watcher stands beside the builder that counts frames. It sees what each frame is told and what it asks for, and lets a
+//! search use its cache in full.
+ghost use Rattle.std.specs.Prelude.{◌≡◌};
+
+mod run;
+
+use crate::progress::Progress;
+use delegate_parts::{Builder, Outcome};
+use rule_tables::Goal;
+use run::Question;
+pub(crate) use run::RunWatch;
+use search_context::context::{NoMemory, Reply, Request};
+use search_context::path::PathKind;
+use std::alloc::Global;
+
+/// Why a question was answered neither yes nor no.
+#[derive(Clone, Copy)]
+pub enum Cause {
+    /// The goal that asks it had no depth left. Where some goal had its most runs before, it may be the asked one, whose
+    /// result was stored.
+    Depth { or_runs: bool },
+    /// Its goal had its most runs.
+    Runs,
+    /// It closed a cycle of this kind.
+    Cycle(PathKind),
+    /// Its goal was worked out before, and came to maybe.
+    Known,
+}
+
+/// A question that was answered neither yes nor no, without a question below it that was.
+#[derive(Clone, Copy)]
+pub struct Cut {
+    /// The goal that asked it.
+    pub by: Goal,
+    pub kind: PathKind,
+    pub asked: Goal,
+    pub cause: Cause,
+}
+
+/// Why the goal that was asked from outside came to neither yes nor no.
+#[derive(Clone, Copy)]
+pub enum Reason {
+    /// A question was cut off.
+    Cut(Cut),
+    /// It had its most runs itself.
+    Runs,
+    /// It was worked out before.
+    Known,
+}
+
+// A goal under evaluation, and the kind of the step by which it was asked.
+#[derive(Clone, Copy)]
+struct Level {
+    goal: Goal,
+    kind: PathKind,
+}
+
+/// How many runs are started between two notes of progress.
+const RUNS_A_NOTE: u64 = 1024;
+
+/// Counts frames, and notes why goals come to neither yes nor no. One watcher is for all questions over one cache.
+#[derive(Drop)]
+pub struct Watcher<P> {
+    pub(crate) inner: Builder,
+    progress: P,
+    /// How many questions began before this one.
+    done: usize,
+    /// The goals under evaluation.
+    open: Vec<Level>,
+    /// The kind of the step of the frame that starts next.
+    next: PathKind,
+    /// Why the run that ended last came to neither yes nor no.
+    last: Option<Cut>,
+    /// Some goal had its most runs.
+    had_most_runs: bool,
+    /// How many frames had started before this question.
+    before: u64,
+}
+
+impl<P: Progress> Watcher<P> {
+    ghost use Rattle.watched_runs.specs.Watch.{inner_of};
+
+    /// A watcher that has seen nothing.
+    pub fn new(alloc: Global, progress: P) -> Watcher<P> {
+        Watcher {
+            inner: Builder::new(true),
+            progress,
+            done: 0,
+            open: Vec::new(alloc),
+            next: PathKind::Inductive,
+            last: None,
+            had_most_runs: false,
+            before: 0,
+        }
+    }
+
+    /// The next question begins: what belongs to the last one alone is forgotten. The number is that of the questions before.
+    pub fn begin(&mut self, done: usize) {
+        self.done = done;
+        self.tell();
+        self.open.clear();
+        self.next = PathKind::Inductive;
+        self.last = None;
+        self.before = self.inner.started();
+    }
+
+    /// Why the question came to this outcome, which is neither yes nor no.
+    pub fn reason(&mut self, outcome: Outcome) -> Reason {
+        if self.inner.started() == self.before {
+            return Reason::Known;
+        }
+        match (outcome, self.last) {
+            (Outcome::Overflow, _) => {
+                self.had_most_runs = true;
+                Reason::Runs
+            }
+            (_, Some(cut)) => Reason::Cut(cut),
+            (_, None) => Reason::Known,
+        }
+    }
+
+    /// Notes that a run of the goal begins.
+    pub(crate) fn note_start(&mut self, goal: Goal) -> Result<RunWatch, NoMemory>
+        ensures { inner_of self.new ≡ inner_of self.old }
+    {
+        self.open.push(Level {
+            goal,
+            kind: self.next,
+        })?;
+        if self.inner.started() % RUNS_A_NOTE == 0 {
+            self.tell();
+        }
+        Ok(RunWatch::new(goal))
+    }
+
+    fn tell(&mut self)
+        ensures { inner_of self.new ≡ inner_of self.old }
+    {
+        self.progress.note(self.done, self.inner.started());
+    }
+
+    /// Notes what the run is told.
+    pub(crate) fn note_reply(&mut self, run: RunWatch, reply: Reply<Outcome>) -> RunWatch
+        ensures { inner_of self.new ≡ inner_of self.old }
+    {
+        match (run.question, reply) {
+            (Some(question), Reply::Answer(outcome)) => match outcome {
+                Outcome::Yes => run,
+                Outcome::No => run.failing(),
+                Outcome::Maybe | Outcome::Overflow => {
+                    run.cut_off(self.cut_of(run.goal, question, outcome))
+                }
+            },
+            _ => run,
+        }
+    }
+
+    /// Notes what the run asks for.
+    pub(crate) fn note_request(
+        &mut self,
+        run: RunWatch,
+        request: Request<Goal, Outcome>,
+    ) -> RunWatch
+        ensures { inner_of self.new ≡ inner_of self.old }
+    {
+        match request {
+            Request::Evaluate(kind, goal) => {
+                self.next = kind;
+                run.asking(Question {
+                    kind,
+                    goal,
+                    started: self.inner.started(),
+                })
+            }
+            Request::EnterCandidate => run.entering(),
+            Request::FinishCandidate => run.finishing(),
+            Request::Ignore(_) => run,
+            Request::Done(_) => {
+                // Where the goal is run again, it is by the same step.
+                if let Some(level) = self.open.pop() {
+                    self.next = level.kind;
+                }
+                self.last = run.cut;
+                run
+            }
+        }
+    }
+
+    // Why the question has this answer, which is neither yes nor no.
+    fn cut_of(&mut self, by: Goal, question: Question, outcome: Outcome) -> Cut
+        ensures { inner_of self.new ≡ inner_of self.old }
+    {
+        let was_run = self.inner.started() != question.started;
+        let cause = match (was_run, outcome) {
+            (true, Outcome::Overflow) => {
+                self.had_most_runs = true;
+                Cause::Runs
+            }
+            (true, _) => match self.last {
+                Some(cut) => return cut,
+                None => Cause::Known,
+            },
+            (false, Outcome::Overflow) => Cause::Depth {
+                or_runs: self.had_most_runs,
+            },
+            (false, _) => match self.cycle_kind(question) {
+                Some(kind) => Cause::Cycle(kind),
+                None => Cause::Known,
+            },
+        };
+        Cut {
+            by,
+            kind: question.kind,
+            asked: question.goal,
+            cause,
+        }
+    }
+
+    // The kind of the cycle that the question closes, if its goal is under evaluation.
+    fn cycle_kind(&self, question: Question) -> Option<PathKind> {
+        let mut kind = question.kind;
+        for level in self.open.iter().rev() {
+            if level.goal == question.goal {
+                return Some(kind);
+            }
+            kind = kind.extend(level.kind);
+        }
+        None
+    }
+}
