@@ -10,8 +10,9 @@
  *
  * The runs of the last one are processes that go on from where the program would start, one after the other: so the program is
  * loaded once for all of them. Each reads standard input from its beginning. How a run ends is written to standard
- * output if the run before ended otherwise, or there was none: the byte 0x1e, the number, the status, a newline, and all
- * that the run wrote. The status is 0 once all runs were made, however they ended.
+ * output if the run before ended otherwise, or there was none: the byte 0x1e, the number, the status, how many bytes the run
+ * wrote to standard output, a newline, these bytes, and those that it wrote to standard error. The status is 0 once all runs
+ * were made, however they ended.
  *
  * It needs no header, so that the compiler of the kit can compile it.
  */
@@ -43,21 +44,35 @@ static size number_in(const char *name) {
     return text ? strtoul(text, 0, 10) : 0;
 }
 
-/* How a run ended. */
+/* How a run ended: what it wrote to standard output, and then to standard error. */
 static struct ending {
     int status;
-    long length;
+    long out, length;
     char text[1 << 16];
 } now, before = {-1};
 
-/* Writes how the run ended, if the one before did not end so. Returns whether what it wrote could be read. */
-static int tell(int written, int status) {
-    now.status = status & 127 ? 128 + (status & 127) : status >> 8 & 255;
-    now.length = pread(written, now.text, sizeof now.text, 0);
-    if (now.length < 0 || now.length == sizeof now.text)
+/* Reads what was written to the file behind what was read before. Returns whether all could be read. */
+static int take(int written) {
+    size room = sizeof now.text - now.length;
+    long length = pread(written, now.text + now.length, room, 0);
+    if (length < 0 || length == room)
         return 0;
-    if (now.status != before.status || now.length != before.length || memcmp(now.text, before.text, now.length)) {
-        dprintf(1, "\036%lu %d\n%.*s", at, now.status, (int)now.length, now.text);
+    now.length += length;
+    return 1;
+}
+
+/* Writes how the run ended, if the one before did not end so. Returns whether what it wrote could be read. */
+static int tell(const int *written, int status) {
+    now.status = status & 127 ? 128 + (status & 127) : status >> 8 & 255;
+    now.length = 0;
+    if (!take(written[0]))
+        return 0;
+    now.out = now.length;
+    if (!take(written[1]))
+        return 0;
+    if (now.status != before.status || now.out != before.out || now.length != before.length ||
+        memcmp(now.text, before.text, now.length)) {
+        dprintf(1, "\036%lu %d %ld\n%.*s", at, now.status, now.out, (int)now.length, now.text);
         memcpy(&before, &now, sizeof now);
     }
     return 1;
@@ -65,18 +80,20 @@ static int tell(int written, int status) {
 
 /* Returns once in a process for each of the numbers, which `at` is then. */
 static void begin_each(const char *numbers) {
-    int status, written = memfd_create("written", 0);
+    int status, written[] = {memfd_create("out", 0), memfd_create("err", 0)};
     char *rest;
     while ((at = strtoul(numbers, &rest, 10))) {
         numbers = rest;
         lseek(0, 0, 0);
-        lseek(written, 0, 0);
-        if (ftruncate(written, 0))
-            _exit(1);
+        for (int file = 0; file < 2; file++) {
+            lseek(written[file], 0, 0);
+            if (ftruncate(written[file], 0))
+                _exit(1);
+        }
         int process = fork();
         if (process == 0) {
-            dup2(written, 1);
-            dup2(written, 2);
+            dup2(written[0], 1);
+            dup2(written[1], 2);
             return;
         }
         if (waitpid(process, &status, 0) != process || !tell(written, status))

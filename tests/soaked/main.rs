@@ -2,6 +2,7 @@
 //! then, and says what it tells.
 #![tactic(auto)]
 
+mod chance;
 mod failed;
 mod tables;
 

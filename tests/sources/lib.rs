@@ -6,7 +6,10 @@
 //! | `tables` | the search, by a text of runs: worked examples, runs of the original, and tables that are drawn |
 //! | `searches` | searches, by functions of their own, and the uses of the library |
 //! | `programs` | the programs, of what no text shows |
+//!
+//! They share `chance`, numbers that look random.
 
+mod chance;
 mod parts;
 mod programs;
 mod searches;

@@ -1,7 +1,7 @@
 //! Tests of what needs no memory. Where each request of a test may be refused, as `tests/memory` does it, what these calls
 //! answer shows that they make none.
 
-use asked_tables::calls::{evaluate, is_idle, new_graph};
+use bare_calls::{evaluate, is_idle, new_graph};
 use delegate_parts::{Builder, Outcome};
 use rule_tables::delegate::Table;
 use rule_tables::{Goal, Rules, TableDelegate};

@@ -2,9 +2,7 @@
 
 use crate::failed::{Failed, ensure};
 use crate::stored::Stored;
-use asked_tables::calls::{
-    evaluate, evaluate_list, has_accepted_graph, is_idle, new_cache, new_graph,
-};
+use bare_calls::{evaluate, evaluate_list, has_accepted_graph, is_idle, new_cache, new_graph};
 use delegate_parts::{Builder, Outcome};
 use rule_tables::{Goal, Rules};
 use search_parts::context::{Answer, Cx, Delegate, Fault, NoMemory};

@@ -8,7 +8,6 @@ mod alike;
 mod asked;
 mod failed;
 mod stored;
-mod told;
 
 use alike::write_alike;
 use asked::answers_of;
@@ -20,7 +19,6 @@ use std::alloc::{AllocError, Global};
 use std::io;
 use std::io::{BufWriter, Read, Write};
 use std::test::Fail;
-use told::check_text;
 
 /// The byte between two inputs.
 const BETWEEN: u8 = 0x1e;
@@ -110,17 +108,14 @@ fn head_of(run: &[u8]) -> (&[u8], &[u8]) {
     }
 }
 
-/// What the questions of a text come to, with the options that the head names, and whether the program says the same.
+/// What the questions of a text come to, with the options that the head names.
 fn answers_in(alloc: Global, head: &[u8], text: &[u8]) -> Result<Vec<Outcome>, Failed> {
     match head {
         b"limit 0" => answers_with::<0, 1>(alloc, text),
         b"limit 1" => answers_with::<1, 1>(alloc, text),
         b"limit 2" => answers_with::<2, 1>(alloc, text),
         b"limit 3" => answers_with::<3, 1>(alloc, text),
-        b"limit 8" => {
-            check_text(alloc, text)?;
-            answers_with::<8, 1>(alloc, text)
-        }
+        b"limit 8" => answers_with::<8, 1>(alloc, text),
         b"limit 0 provisional off" => answers_with::<0, 0>(alloc, text),
         b"limit 1 provisional off" => answers_with::<1, 0>(alloc, text),
         b"limit 2 provisional off" => answers_with::<2, 0>(alloc, text),

@@ -68,8 +68,8 @@ const CALLS: [(&str, Call); 9] = [
 
 #[test]
 fn refused_calls_change_nothing(rt: HostRuntime) -> Result<(), Fail> {
-    for (name, call) in CALLS {
-        let is_kept = is_kept(rt.alloc(), call)?;
+    for (name, call) in &CALLS {
+        let is_kept = is_kept(rt.alloc(), *call)?;
         assert!(rt; is_kept, "{name}");
     }
     Ok(())
@@ -94,8 +94,14 @@ fn is_kept(alloc: Global, call: Call) -> Result<bool, NoMemory> {
 
 fn keeps_nested_goals<X: Cx<Input = PathKind>>(alloc: Global) -> Result<bool, NoMemory> {
     let mut goals = NestedGoals::<X>::new(alloc);
-    for goal in KINDS {
-        if !keeps_nested_goal(&mut goals, goal)? {
+    keeps_each_nested_goal(&mut goals)
+}
+
+fn keeps_each_nested_goal<X: Cx<Input = PathKind>>(
+    goals: &mut NestedGoals<X>,
+) -> Result<bool, NoMemory> {
+    for goal in &KINDS {
+        if !keeps_nested_goal(goals, *goal)? {
             return Ok(false);
         }
     }
@@ -120,16 +126,15 @@ fn keeps_nested_goal<X: Cx<Input = PathKind>>(
     Ok(is_joined && goals.get(goal) == Some(both))
 }
 
-/// Some goals with the path of no step to each.
-fn nested_goals_of<X: Cx<Input = PathKind>>(
-    alloc: Global,
+/// Inserts these goals with the path of no step to each.
+fn insert_all<X: Cx<Input = PathKind>>(
+    goals: &mut NestedGoals<X>,
     inputs: &[PathKind],
-) -> Result<NestedGoals<X>, NoMemory> {
-    let mut goals = NestedGoals::<X>::new(alloc);
+) -> Result<(), NoMemory> {
     for goal in inputs {
         goals.insert(*goal, PathsToNested::EMPTY)?;
     }
-    Ok(goals)
+    Ok(())
 }
 
 /// Whether there are so many goals, and these are the paths to the unknown one.
@@ -138,20 +143,22 @@ fn has_unknown<X: Cx<Input = PathKind>>(
     count: usize,
     paths: PathsToNested,
 ) -> bool {
-    goals.iter().count() == count && goals.get(PathKind::Unknown) == Some(paths)
+    goals.len() == count && goals.get(PathKind::Unknown) == Some(paths)
 }
 
 fn keeps_goals_of_a_child<X: Cx<Input = PathKind>>(alloc: Global) -> Result<bool, NoMemory> {
-    let child = nested_goals_of::<X>(alloc, &KINDS)?;
-    let mut goals = nested_goals_of::<X>(alloc, &[PathKind::Unknown])?;
-    extends(&mut goals, &child)
+    let mut child = NestedGoals::<X>::new(alloc);
+    let mut goals = NestedGoals::<X>::new(alloc);
+    extends(&mut goals, &mut child)
 }
 
-/// Joins the goals of a child to the unknown one.
+/// Joins the four goals of a child to the unknown one.
 fn extends<X: Cx<Input = PathKind>>(
     goals: &mut NestedGoals<X>,
-    child: &NestedGoals<X>,
+    child: &mut NestedGoals<X>,
 ) -> Result<bool, NoMemory> {
+    insert_all(child, &KINDS)?;
+    insert_all(goals, &[PathKind::Unknown])?;
     let step = PathKind::Coinductive;
     if goals.extend_from_child(step, child).is_err() {
         if !has_unknown(goals, 1, PathsToNested::EMPTY) {
@@ -164,15 +171,24 @@ fn extends<X: Cx<Input = PathKind>>(
 }
 
 fn keeps_given_goals<X: Cx<Input = PathKind>>(alloc: Global) -> Result<bool, NoMemory> {
-    let mut goals = nested_goals_of::<X>(alloc, &[PathKind::Unknown])?;
-    if !takes(alloc, &mut goals)? {
-        if !has_unknown(&goals, 1, PathsToNested::EMPTY) {
+    let mut goals = NestedGoals::<X>::new(alloc);
+    takes_at_last(alloc, &mut goals)
+}
+
+/// Joins the goals that a child gives to the unknown one.
+fn takes_at_last<X: Cx<Input = PathKind>>(
+    alloc: Global,
+    goals: &mut NestedGoals<X>,
+) -> Result<bool, NoMemory> {
+    insert_all(goals, &[PathKind::Unknown])?;
+    if !takes(alloc, goals)? {
+        if !has_unknown(goals, 1, PathsToNested::EMPTY) {
             return Ok(false);
         }
-        takes(alloc, &mut goals)?;
+        takes(alloc, goals)?;
     }
     let is_given = goals.get(PathKind::Inductive) == Some(PathsToNested::COINDUCTIVE);
-    Ok(is_given && has_unknown(&goals, 3, PathsToNested::EMPTY))
+    Ok(is_given && has_unknown(goals, 3, PathsToNested::EMPTY))
 }
 
 /// Takes the two goals of a child, and says whether there was memory.
@@ -180,8 +196,8 @@ fn takes<X: Cx<Input = PathKind>>(
     alloc: Global,
     goals: &mut NestedGoals<X>,
 ) -> Result<bool, NoMemory> {
-    let of_child = [PathKind::Inductive, PathKind::Coinductive];
-    let mut child = nested_goals_of::<X>(alloc, &of_child)?;
+    let mut child = NestedGoals::<X>::new(alloc);
+    insert_all(&mut child, &[PathKind::Inductive, PathKind::Coinductive])?;
     Ok(
         goals
             .take_from_child(PathKind::Coinductive, &mut child)
@@ -191,19 +207,28 @@ fn takes<X: Cx<Input = PathKind>>(
 
 fn keeps_stack<X: Cx<Input = PathKind>>(alloc: Global) -> Result<bool, NoMemory> {
     let mut stack = Stack::<X>::new(alloc);
-    for goal in KINDS {
-        let below = stack.len();
-        if !push(alloc, &mut stack, goal) {
-            if stack.len() != below || stack.find(goal).is_some() {
-                return Ok(false);
-            }
-            push(alloc, &mut stack, goal);
-        }
-        if stack.find(goal) != Some(StackDepth::new(below)) {
+    for goal in &KINDS {
+        if !keeps_pushed(alloc, &mut stack, *goal) {
             return Ok(false);
         }
     }
     Ok(stack.len() == 4)
+}
+
+/// Pushes a new goal.
+fn keeps_pushed<X: Cx<Input = PathKind>>(
+    alloc: Global,
+    stack: &mut Stack<X>,
+    goal: PathKind,
+) -> bool {
+    let below = stack.len();
+    if !push(alloc, stack, goal) {
+        if stack.len() != below || stack.find(goal).is_some() {
+            return false;
+        }
+        push(alloc, stack, goal);
+    }
+    stack.find(goal) == Some(StackDepth::new(below))
 }
 
 /// Pushes the goal, and says whether there was memory.
@@ -330,7 +355,8 @@ where
         return Err(NoMemory);
     }
     let done = done_goal::<X>(alloc)?;
-    let mut cache = cache_of_two::<X, D>(alloc, GOAL)?;
+    let mut cache = ProvisionalCache::<D>::new(alloc);
+    append_two(&mut cache, alloc, GOAL)?;
     let is_done = cache.rebase(cx, &done, &stack, reason_of(reason)).is_ok();
     Ok(cache.is_empty() != is_done)
 }
@@ -369,17 +395,17 @@ fn head_at(alloc: Global, depth: usize) -> Result<CycleHeads, NoMemory>
     Ok(heads)
 }
 
-/// A cache with the two entries of a goal.
-fn cache_of_two<X: Cx<Result = Outcome>, D: Delegate<Cx = X>>(
+/// Appends the two entries of a goal.
+fn append_two<X: Cx<Result = Outcome>, D: Delegate<Cx = X>>(
+    cache: &mut ProvisionalCache<D>,
     alloc: Global,
     goal: X::Input,
-) -> Result<ProvisionalCache<D>, NoMemory>
-    ensures { IfOk result (AreWithin X.Input.eq) }
+) -> Result<(), NoMemory>
+    requires { AreWithin X.Input.eq cache.old }
+    ensures { OnOk result (AreWithin X.Input.eq cache.new) }
 {
-    let mut cache = ProvisionalCache::<D>::new(alloc);
-    append(&mut cache, alloc, goal, 0, Outcome::No)?;
-    append(&mut cache, alloc, goal, 1, Outcome::Yes)?;
-    Ok(cache)
+    append(cache, alloc, goal, 0, Outcome::No)?;
+    append(cache, alloc, goal, 1, Outcome::Yes)
 }
 
 /// Appends an entry of the goal that used the goal of this depth, over an inductive path.

@@ -1,6 +1,6 @@
 //! Tests of numbers that look random.
 
-use chance::Chance;
+use crate::chance::Chance;
 use std::process::Abort;
 
 #[test]
@@ -26,6 +26,20 @@ fn compare() -> (usize, usize) {
         }
     }
     counts
+}
+
+#[test]
+fn each_number_is_below_the_end(rt: HostRuntime) {
+    let mut chance = Chance::new(1);
+    let mut beyond = 0usize;
+    for end in 1..1000usize {
+        if chance.below(end) >= end {
+            beyond = beyond.saturating_add(1);
+        }
+    }
+    assert_eq!(rt; beyond, 0);
+    assert_eq!(rt; chance.below(1), 0);
+    assert_eq!(rt; chance.below(0), 0);
 }
 
 #[test]

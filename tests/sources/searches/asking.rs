@@ -1,6 +1,6 @@
 //! Goals that are asked on a graph of their own.
 
-use asked_tables::calls::{evaluate, is_idle, new_graph};
+use bare_calls::{evaluate, is_idle, new_graph};
 use search_parts::context::{Answer, Cx, Delegate, Fault};
 use search_parts::global_cache::GlobalCache;
 use search_parts::path::PathKind;

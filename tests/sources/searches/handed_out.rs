@@ -1,7 +1,7 @@
 //! Graphs that a search handed out over a table of rules, and the checker's word on any graph.
 
 use crate::searches::asking::ask;
-use asked_tables::calls::new_cache;
+use bare_calls::new_cache;
 use graph_check::check_graph;
 use rule_tables::delegate::Table;
 use rule_tables::{Builder, Goal, Outcome, Rules, TableDelegate};

@@ -1,6 +1,6 @@
 //! Goals that are asked, whatever they are.
 
-use asked_tables::calls::{evaluate, has_accepted_graph, new_graph};
+use bare_calls::{evaluate, has_accepted_graph, new_graph};
 use delegate_parts::{Builder, Outcome};
 use search_graph::graph::SearchGraph;
 use search_parts::context::{Answer, Cx, Delegate, Fault, NoMemory};

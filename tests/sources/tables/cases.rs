@@ -5,7 +5,7 @@ use crate::tables::drawing::{start_line, write_graph};
 use crate::tables::idle::write_idle;
 use crate::tables::lists::{answers_to, lists_have};
 use crate::tables::trees::{write_record, write_tree};
-use asked_tables::calls::new_cache;
+use bare_calls::new_cache;
 use delegate_parts::{Builder, Outcome};
 use rule_tables::delegate::Table;
 use rule_tables::{Goal, Rules, TableDelegate};

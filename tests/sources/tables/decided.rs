@@ -9,13 +9,13 @@
 //! more writes greater numbers into them, and calls `tests/unproved tables`: ten times as many take four minutes, and for more
 //! than that the script has to give the run more seconds. The first tables of a row stay the same.
 
+use crate::chance::Chance;
 use crate::tables::asked::{Way, ask};
 use crate::tables::random_tables::{Kinds, random_goals, text_of};
 use crate::tables::solved::have_proofs;
-use asked_tables::calls::new_cache;
-use asked_tables::early::EarlyDelegate;
-use chance::Chance;
+use bare_calls::new_cache;
 use delegate_parts::{Builder, Outcome};
+use early_scripts::EarlyDelegate;
 use rule_tables::delegate::Table;
 use rule_tables::{Goal, Rules, TableDelegate};
 use search_parts::context::{Cx, Delegate};

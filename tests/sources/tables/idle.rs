@@ -1,6 +1,6 @@
 //! A graph between its calls, where no goal is under evaluation.
 
-use asked_tables::calls::{evaluate, new_cache, new_graph};
+use bare_calls::{evaluate, new_cache, new_graph};
 use delegate_parts::{Builder, Outcome};
 use rule_tables::Goal;
 use search_graph::graph::SearchGraph;

@@ -1,7 +1,7 @@
 //! Questions over tables, one after the other, and the same as lists.
 
 use crate::tables::asked::{Answered, Way, ask, is_shown};
-use asked_tables::calls::{evaluate_list, new_cache};
+use bare_calls::{evaluate_list, new_cache};
 use delegate_parts::{Builder, Outcome};
 use rule_tables::Goal;
 use search_parts::context::{Answer, Cx, Delegate, Fault};

@@ -17,7 +17,7 @@
 use crate::tables::asked::{Answered, Way, ask, is_definite};
 use crate::tables::lists::{answers_to, lists_have};
 use crate::tables::plain_graph::ShownGraph;
-use asked_tables::calls::new_cache;
+use bare_calls::new_cache;
 use delegate_parts::{Builder, Outcome};
 use rule_tables::delegate::Table;
 use rule_tables::{Goal, Rules, TableDelegate};

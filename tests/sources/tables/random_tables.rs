@@ -1,6 +1,6 @@
 //! Tables drawn at random, whose goals ask inductively and coinductively alone.
 
-use chance::Chance;
+use crate::chance::Chance;
 use std::alloc::Global;
 use std::io::Write;
 use std::test::Fail;

@@ -9,7 +9,7 @@
 use crate::tables::asked::is_shown;
 use crate::tables::drawing::{draw_replies, start_line};
 use crate::tables::letters::{kind_of, letter_of};
-use asked_tables::calls::{evaluate, is_idle, new_cache, new_graph};
+use bare_calls::{evaluate, is_idle, new_cache, new_graph};
 use delegate_parts::{Builder, ContextOf, Outcome};
 use search_graph::graph::SearchGraph;
 use search_parts::context::{Answer, Cx, Delegate, Fault, Node};

@@ -5,7 +5,7 @@
 //! what rustc's own code comes to. The answers to all goals over one cache have to be shown by their graphs.
 
 use crate::tables::cases::{Case, lines_of};
-use asked_tables::early::EarlyDelegate;
+use early_scripts::EarlyDelegate;
 use rule_tables::Rules;
 use rule_tables::delegate::Table;
 use std::alloc::Global;

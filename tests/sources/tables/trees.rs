@@ -1,6 +1,6 @@
 //! Proof trees that are recorded.
 
-use asked_tables::calls::new_cache;
+use bare_calls::new_cache;
 use delegate_parts::{Builder, Outcome};
 use proof_trees::{Recorder, Recording, write_entries};
 use rule_tables::{Goal, Rules};

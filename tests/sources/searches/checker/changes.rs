@@ -1,7 +1,7 @@
 //! Random changes of a graph's nodes.
 
+use crate::chance::Chance;
 use crate::searches::handed_out::copy_of;
-use chance::Chance;
 use rule_tables::{Goal, Outcome};
 use search_parts::context::{Edge, Node, Reply};
 use search_parts::path::PathKind;

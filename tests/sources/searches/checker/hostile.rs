@@ -1,9 +1,9 @@
 //! Graphs that were handed out, changed at random: the checker says of each what the plain check says.
 
+use crate::chance::Chance;
 use crate::searches::checker::changes::change;
 use crate::searches::checker::plain::is_graph;
 use crate::searches::handed_out::{HandedOut, Nodes, copy_of, graph_for, is_accepted};
-use chance::Chance;
 use rule_tables::{Goal, Outcome, Rules};
 use search_parts::context::Node;
 use std::alloc::Global;

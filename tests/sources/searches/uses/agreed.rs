@@ -1,7 +1,7 @@
 //! The search beside the plain fixpoint, and the checker beside both.
 
 use crate::searches::uses::plain::{Pairs, pairs_below};
-use asked_tables::calls::{evaluate, has_accepted_graph, new_cache, new_graph};
+use bare_calls::{evaluate, has_accepted_graph, new_cache, new_graph};
 use delegate_parts::{Builder, Outcome};
 use question_lists::{ContextOf, Listed, ListsContext};
 use search_parts::context::{Cx, Delegate, Verdict};

@@ -1,7 +1,7 @@
 //! Texts drawn at random.
 
+use crate::chance::Chance;
 use crate::searches::uses::agreed::agreed;
-use chance::Chance;
 use std::alloc::Global;
 use std::io::Write;
 use std::process::Abort;

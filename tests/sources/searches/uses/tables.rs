@@ -1,8 +1,8 @@
 //! The search beside the plain definition, on all tables of two small types and on random tables.
 
+use crate::chance::Chance;
 use crate::searches::uses::agreed::{agreed, answered_otherwise};
 use crate::searches::uses::sides::{Side, declare_all};
-use chance::Chance;
 use std::alloc::Global;
 use std::process::Abort;
 use std::test::Fail;

@@ -1,6 +1,6 @@
 //! Towers of types, whose pairs are asked twice on each storey: what the provisional cache saves.
 
-use asked_tables::calls::{evaluate, new_cache, new_graph};
+use bare_calls::{evaluate, new_cache, new_graph};
 use delegate_parts::{Builder, Outcome};
 use question_lists::{ContextOf, Listed, ListsContext, ListsDelegate};
 use search_parts::context::{Cx, Delegate, Verdict};

@@ -1,7 +1,7 @@
 //! Rules whose script stops early: a candidate is left at its first answer that is not yes, and the goal at its first
 //! candidate that holds. A mark makes no difference.
 ghost use Rattle.std.specs.Prelude.{◌≡◌};
-ghost use Rattle.asked_tables.specs.Early.{fresh, request_of, with_answer, with_reply};
+ghost use Rattle.early_scripts.specs.Early.{fresh, request_of, with_answer, with_reply};
 
 use delegate_parts::{DelegateOf, Frames, Outcome};
 use rule_tables::delegate::{LendsRules, Table};
@@ -116,8 +116,8 @@ pub type EarlyDelegate<T, const LIMIT: usize, const PROVISIONAL: usize> = Delega
 
 impl<T: LendsRules> Frames for Early<T> {
     ghost use Rattle.std.specs.Prelude.{true};
-    ghost use Rattle.asked_tables.specs.Early.{EarlyFrameStands, early_script, frame_left, steps_within};
-    ghost use Rattle.asked_tables.specs.EarlyLaws as laws;
+    ghost use Rattle.early_scripts.specs.Early.{EarlyFrameStands, early_script, frame_left, steps_within};
+    ghost use Rattle.early_scripts.specs.EarlyLaws as laws;
 
     type Cx = Table<T>;
 

@@ -3,10 +3,10 @@ use Rattle.std.proofs.Common.{◌≡◌, ℕ, ◌+◌, ◌<◌, ◌≤◌, List,
 use Rattle.std.proofs.lemmas.Option.{slice_get_within, get_or_from_slice_get}
 use Rattle.std.proofs.lemmas.List.Sums.{sum_by-drop_more}
 use Rattle.rule_tables.proofs.Steps.{sum_within}
-use Rattle.asked_tables.specs.Below.{Reply, Begin, Answer, Noted, Outcome, Yes, No, Maybe, Overflow, IsFitting, Goal, Candidate, Rules, candidates_of}
-use Rattle.asked_tables.specs.declared.early.State.{State}
-use Rattle.asked_tables.specs.Early.{fresh, moved, with_reply, script_of, state_after, questions_in, steps_left, steps_within}
-use Rattle.asked_tables.specs.EarlyLaws.{IsAnswerTo, is_answered, moves}
+use Rattle.early_scripts.specs.Below.{Reply, Begin, Answer, Noted, Outcome, Yes, No, Maybe, Overflow, IsFitting, Goal, Candidate, Rules, candidates_of}
+use Rattle.early_scripts.specs.declared.early.State.{State}
+use Rattle.early_scripts.specs.Early.{fresh, moved, with_reply, script_of, state_after, questions_in, steps_left, steps_within}
+use Rattle.early_scripts.specs.EarlyLaws.{IsAnswerTo, is_answered, moves}
 
 rest_of : (cs : List Candidate) (i : ℕ) (c : Candidate) → slice_get cs i ≡ Some c → sum_by questions_in (drop i cs) ≡ length c.questions + sum_by questions_in (drop (i + 1) cs)
 rest_of cs i c e =

@@ -1,7 +1,4 @@
 //! Numbers that look random, for tests: the same ones for each seed.
-#![tactic(auto)]
-
-ghost use Rattle.std.specs.Prelude.{◌≡◌, ◌<◌};
 
 use rand_core::utils::NextWord;
 use rand_pcg::Pcg32;
@@ -21,10 +18,7 @@ impl Chance {
     }
 
     /// The next number, below this one; 0 below 0.
-    pub fn below(&mut self, end: usize) -> usize
-        ensures below { 0 < end → result < end }
-        ensures zero { end ≡ 0 → result ≡ 0 }
-    {
+    pub fn below(&mut self, end: usize) -> usize {
         let word = self.words.next_word() as usize;
         word.checked_rem(end).unwrap_or(0)
     }

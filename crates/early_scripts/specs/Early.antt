@@ -1,10 +1,10 @@
 -- A frame asks the questions of one candidate after the other. It leaves a candidate at its first answer that is not yes,
 -- and the goal at its first candidate that holds.
 use Rattle.std.specs.Prelude.{◌≡◌, ℕ, ◌+◌, ◌-◌, Bool, true, false, if◌then◌else◌, List, [], ◌∷◌, length, drop, sum_by, slice_get, Option, Some, None}
-use Rattle.asked_tables.specs.Below.{Request, Evaluate, Done, Reply, Begin, Answer, Noted, Outcome, Yes, No, Maybe, Overflow, Goal, Asking, Candidate, Rules, Table, candidates_of}
+use Rattle.early_scripts.specs.Below.{Request, Evaluate, Done, Reply, Begin, Answer, Noted, Outcome, Yes, No, Maybe, Overflow, Goal, Asking, Candidate, Rules, Table, candidates_of}
 use Rattle.rule_tables.specs.Candidate.{candidates_with}
-use Rattle.asked_tables.specs.declared.early.State.{State}
-use Rattle.asked_tables.specs.declared.early.EarlyFrame.{EarlyFrame}
+use Rattle.early_scripts.specs.declared.early.State.{State}
+use Rattle.early_scripts.specs.declared.early.EarlyFrame.{EarlyFrame}
 
 -- no reply has come
 abbrev pub fresh : State

@@ -5,9 +5,9 @@ use Rattle.std.proofs.lemmas.Bool.Decides.{eqb_tells}
 use Rattle.std.proofs.lemmas.List.Elements.{Contains-append_left, Contains-push}
 use Rattle.search_context.proofs.Graphs.{Contains-map}
 use Rattle.rule_tables.specs.Laws.Members.{Contains-from_slice_get, slice_get-from_Contains, Contains-mapped, Contains-filtered, before_end}
-use Rattle.asked_tables.specs.Below.{Evaluate, Done, Reply, Begin, Answer, Noted, Outcome, Yes, No, Maybe, Overflow, is_yes, is_no, Goal, Asking, Candidate, Rules, question_of, candidates_of, Proves, Refutes, Asked, EndsIn, Fits, IsFitting, Progress, no_progress, progress_with, progress_after, questions_answered, is_counted, request_after}
-use Rattle.asked_tables.specs.declared.early.State.{State}
-use Rattle.asked_tables.specs.Early.{moved, moved_from, moved_in, with_reply, request_in, request_at, request_of, state_after, script_of}
+use Rattle.early_scripts.specs.Below.{Evaluate, Done, Reply, Begin, Answer, Noted, Outcome, Yes, No, Maybe, Overflow, is_yes, is_no, Goal, Asking, Candidate, Rules, question_of, candidates_of, Proves, Refutes, Asked, EndsIn, Fits, IsFitting, Progress, no_progress, progress_with, progress_after, questions_answered, is_counted, request_after}
+use Rattle.early_scripts.specs.declared.early.State.{State}
+use Rattle.early_scripts.specs.Early.{moved, moved_from, moved_in, with_reply, request_in, request_at, request_of, state_after, script_of}
 
 -- a question is asked in this state, and the reply answers it
 pub record IsAnswerTo (cs : List Candidate) (s : State) (x : Reply Outcome) : Type 0 where

@@ -1,7 +1,7 @@
 use Rattle.std.proofs.Common.{ap, ap₂, ◌∙◌}
-use Rattle.asked_tables.specs.Below.{candidates_of}
-use Rattle.asked_tables.proofs.EarlySteps.{falls_at}
-use Rattle.asked_tables.proofs.early.EarlyFrames.step.Goals as goal
+use Rattle.early_scripts.specs.Below.{candidates_of}
+use Rattle.early_scripts.proofs.EarlySteps.{falls_at}
+use Rattle.early_scripts.proofs.early.EarlyFrames.step.Goals as goal
 
 pub returns-clause-falls : goal.returns-clause-falls
 returns-clause-falls g c =
