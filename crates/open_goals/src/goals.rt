@@ -299,15 +299,6 @@ impl<X: Cx, F: Drop, S: Drop> OpenGoals<X, F, S> {
     pub fn allocator(&self) -> Global {
         *self.runs.allocator()
     }
-
-    /// Drops every goal with its run.
-    pub fn clear(&mut self)
-        ensures { self.new ≡ [] }
-    {
-        while self.len() > 0 {
-            let _ = self.pop();
-        }
-    }
 }
 
 /// Adds a goal and its run. It knows nothing of runs, so that one which is refused is dropped as any value is.

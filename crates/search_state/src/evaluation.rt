@@ -110,11 +110,8 @@ impl<D: Delegate> Evaluation<D> {
     fn empty(&mut self)
         ensures { self.new ≡ record self.old { goals = []; provisional = [] } }
     {
-        if self.goals.len() > 0 {
-            self.goals.clear();
-        }
-        if !self.provisional.is_empty() {
-            self.provisional = ProvisionalCache::new(self.goals.allocator());
+        if self.goals.len() > 0 || !self.provisional.is_empty() {
+            self.release();
         }
     }
 }
