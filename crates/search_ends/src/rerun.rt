@@ -22,8 +22,10 @@ pub(crate) fn run_again<D: Delegate>(
     ensures reran { OnOk result (
         RunsAgain D.Delegate D.Cx.Cx D.Cx.Input.eq outcome cache.old evaluation.old cache.new
         evaluation.new) }
-    ensures rest { evaluation.new
-        ≡ record evaluation.old { goals = evaluation.new.goals; provisional = evaluation.new.provisional } }
+    ensures rest { evaluation.new ≡ record evaluation.old {
+      goals = evaluation.new.goals;
+      provisional = evaluation.new.provisional;
+    } }
     ensures cache { cache.new ≡ record cache.old { nodes = cache.new.nodes } }
     ensures kept { KeepsFinished cache.old.nodes cache.new.nodes }
     ensures earlier { KeepsEarlier evaluation.old.goals cache.old.nodes cache.new.nodes }

@@ -34,8 +34,10 @@ pub(crate) fn store_answer<D: Delegate>(
         cache.new evaluation.new.drafts }
     ensures stores { OnOk result (Stores D.Delegate D.Cx.Cx D.Cx.Input.eq step input
         answer fate evaluation.old evaluation.new cache.new) }
-    ensures rest { evaluation.new
-        ≡ record evaluation.old { provisional = evaluation.new.provisional; drafts = evaluation.new.drafts } }
+    ensures rest { evaluation.new ≡ record evaluation.old {
+      provisional = evaluation.new.provisional;
+      drafts = evaluation.new.drafts;
+    } }
     ensures fails { IfErr result (Fails D.Delegate D.Cx.Cx D.Cx.Input.eq answer.result cache.old
         cache.new evaluation.new.drafts) }
     ensures plain { (n : ℕ) → IsPlainTo (D.script cache.old.cx) n input →

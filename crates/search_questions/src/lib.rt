@@ -1,5 +1,5 @@
-//! What a question of the newest goal comes to: it is answered, or a goal is pushed. And after a move nodes may be let go to
-//! which nothing leads.
+//! What a question of the newest goal comes to: it is answered, or a goal is pushed. And between two moves nodes may be
+//! let go to which nothing leads.
 //!
 //! | File of `specs/` | Has |
 //! |---|---|

@@ -1,5 +1,5 @@
-//! What a call carries along beside the cache: the goals under evaluation with their runs, the provisional cache, and what
-//! it knows of the nodes that it writes.
+//! What a call carries along beside the cache: the goals under evaluation with their runs, the provisional cache, and
+//! what it knows of the nodes that it writes.
 //!
 //! | File of `specs/` | Has |
 //! |---|---|
