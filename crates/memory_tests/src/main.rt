@@ -10,7 +10,7 @@ mod failed;
 mod stored;
 
 use alike::write_alike;
-use asked::answers_of;
+use asked::Asked;
 use delegate_parts::Outcome;
 use failed::Failed;
 use rule_tables::delegate::Table;
@@ -52,16 +52,16 @@ fn print_alike(rt: &HostRuntime, seed: u64) -> Result<(), Fail> {
 }
 
 /// What the questions come to, again where what the check itself takes was refused: it is the one request that is.
-fn answers_at_last(alloc: Global, head: &[u8], text: &[u8]) -> Result<Vec<Outcome>, Failed> {
+fn answers_at_last(alloc: Global, head: &[u8], text: &[u8]) -> Result<Asked, Failed> {
     match answers_in(alloc, head, text) {
         Err(Failed::Memory) => answers_in(alloc, head, text),
         found => found,
     }
 }
 
-fn tell_answers(rt: &impl Print, found: Result<Vec<Outcome>, Failed>) -> Result<(), Fail> {
+fn tell_answers(rt: &impl Print, found: Result<Asked, Failed>) -> Result<(), Fail> {
     match found {
-        Ok(answers) => tell_each(rt, answers.as_slice()),
+        Ok(asked) => tell_each(rt, asked.outcomes()),
         Err(failed) => tell_failed(rt, failed),
     }
 }
@@ -108,28 +108,42 @@ fn head_of(run: &[u8]) -> (&[u8], &[u8]) {
     }
 }
 
-/// What the questions of a text come to, with the options that the head names.
-fn answers_in(alloc: Global, head: &[u8], text: &[u8]) -> Result<Vec<Outcome>, Failed> {
-    match head {
-        b"limit 0" => answers_with::<0, 1>(alloc, text),
-        b"limit 1" => answers_with::<1, 1>(alloc, text),
-        b"limit 2" => answers_with::<2, 1>(alloc, text),
-        b"limit 3" => answers_with::<3, 1>(alloc, text),
-        b"limit 8" => answers_with::<8, 1>(alloc, text),
-        b"limit 0 provisional off" => answers_with::<0, 0>(alloc, text),
-        b"limit 1 provisional off" => answers_with::<1, 0>(alloc, text),
-        b"limit 2 provisional off" => answers_with::<2, 0>(alloc, text),
-        b"limit 3 provisional off" => answers_with::<3, 0>(alloc, text),
-        b"limit 8 provisional off" => answers_with::<8, 0>(alloc, text),
+/// The questions of a text with what they come to, with the options that the head names.
+fn answers_in(alloc: Global, head: &[u8], text: &[u8]) -> Result<Asked, Failed> {
+    let rules = Rules::read(alloc, text)?;
+    let mut asked = Asked::new(alloc, &rules)?;
+    ask_with(alloc, &rules, head, &mut asked)?;
+    Ok(asked)
+}
+
+fn ask_with(alloc: Global, rules: &Rules, options: &[u8], asked: &mut Asked) -> Result<(), Failed> {
+    match options.strip_suffix(b" provisional off") {
+        Some(limit) => ask_within::<0>(alloc, rules, limit, asked),
+        None => ask_within::<1>(alloc, rules, options, asked),
+    }
+}
+
+fn ask_within<const PROVISIONAL: usize>(
+    alloc: Global,
+    rules: &Rules,
+    limit: &[u8],
+    asked: &mut Asked,
+) -> Result<(), Failed> {
+    match limit {
+        b"limit 0" => ask_by::<0, PROVISIONAL>(alloc, rules, asked),
+        b"limit 1" => ask_by::<1, PROVISIONAL>(alloc, rules, asked),
+        b"limit 2" => ask_by::<2, PROVISIONAL>(alloc, rules, asked),
+        b"limit 3" => ask_by::<3, PROVISIONAL>(alloc, rules, asked),
+        b"limit 8" => ask_by::<8, PROVISIONAL>(alloc, rules, asked),
         _ => Err(Failed::Wrong("other options")),
     }
 }
 
-fn answers_with<const LIMIT: usize, const PROVISIONAL: usize>(
+fn ask_by<const LIMIT: usize, const PROVISIONAL: usize>(
     alloc: Global,
-    text: &[u8],
-) -> Result<Vec<Outcome>, Failed> {
-    let rules = Rules::read(alloc, text)?;
-    let cx = Table { lender: &rules };
-    answers_of::<Table<&Rules>, TableDelegate<'_, LIMIT, PROVISIONAL>>(alloc, cx, &rules)
+    rules: &Rules,
+    asked: &mut Asked,
+) -> Result<(), Failed> {
+    let cx = Table { lender: rules };
+    asked.ask::<Table<&Rules>, TableDelegate<'_, LIMIT, PROVISIONAL>>(alloc, cx)
 }

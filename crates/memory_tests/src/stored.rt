@@ -12,46 +12,46 @@ const MOST_GOALS: usize = 1000;
 /// Results that met overflow are looked for at the depths below this one.
 const DEPTHS: usize = 12;
 
+/// Where a cache may have a result: a goal's success, or its result that met overflow at this depth.
+type Place = (Goal, Option<usize>);
+
 /// The results that a cache has stored of some goals.
 #[derive(Drop)]
 pub struct Stored {
-    goals: Vec<Goal>,
-    /// A goal with its success, or with a result that met overflow and the depth of that.
-    results: Vec<(Goal, Option<usize>, Outcome)>,
+    results: Vec<(Place, Option<Outcome>)>,
 }
 
 impl Stored {
     /// Nothing is stored of the table's goals.
     pub fn new(alloc: Global, rules: &Rules) -> Result<Stored, AllocError> {
         let goals = goals_of(alloc, rules)?;
-        let places = goals.len().saturating_mul(DEPTHS.saturating_add(1));
-        let results = Vec::with_capacity(alloc, places)?;
-        Ok(Stored { goals, results })
+        let count = goals.len().saturating_mul(DEPTHS.saturating_add(1));
+        let mut results = Vec::with_capacity(alloc, count)?;
+        for goal in &goals {
+            add_places(&mut results, *goal)?;
+        }
+        Ok(Stored { results })
     }
 
     /// Whether nothing is stored.
     pub fn is_empty(&self) -> bool {
-        self.results.is_empty()
+        for (_, outcome) in &self.results {
+            if outcome.is_some() {
+                return false;
+            }
+        }
+        true
     }
 
     /// Looks at what is stored now.
-    pub fn look<X, D>(&mut self, cache: &GlobalCache<D>) -> Result<(), AllocError>
+    pub fn look<X, D>(&mut self, cache: &GlobalCache<D>)
     where
         X: Cx<Input = Goal, Result = Outcome>,
         D: Delegate<Cx = X>,
     {
-        self.results.clear();
-        for goal in &self.goals {
-            if let Some((outcome, _)) = cache.success_of(*goal) {
-                self.results.push((*goal, None, outcome))?;
-            }
-            for depth in 0..DEPTHS {
-                if let Some(outcome) = cache.overflow_at(*goal, depth) {
-                    self.results.push((*goal, Some(depth), outcome))?;
-                }
-            }
+        for (place, outcome) in self.results.as_mut_slice() {
+            *outcome = result_at::<X, D>(cache, *place);
         }
-        Ok(())
     }
 
     /// Whether all that was stored is still there with an equal result.
@@ -60,13 +60,36 @@ impl Stored {
         X: Cx<Input = Goal, Result = Outcome>,
         D: Delegate<Cx = X>,
     {
-        self.results.iter().all(|(goal, depth, outcome)| {
-            let now = match depth {
-                Some(depth) => cache.overflow_at(*goal, *depth),
-                None => cache.success_of(*goal).map(|(outcome, _)| outcome),
-            };
-            now == Some(*outcome)
-        })
+        for (place, outcome) in &self.results {
+            if outcome.is_some() && result_at::<X, D>(cache, *place) != *outcome {
+                return false;
+            }
+        }
+        true
+    }
+}
+
+/// Adds each place of the goal.
+fn add_places(results: &mut Vec<(Place, Option<Outcome>)>, goal: Goal) -> Result<(), AllocError> {
+    results.push(((goal, None), None))?;
+    for depth in 0..DEPTHS {
+        results.push(((goal, Some(depth)), None))?;
+    }
+    Ok(())
+}
+
+/// What the cache has in this place.
+fn result_at<X, D>(cache: &GlobalCache<D>, place: Place) -> Option<Outcome>
+where
+    X: Cx<Input = Goal, Result = Outcome>,
+    D: Delegate<Cx = X>,
+{
+    match place {
+        (goal, Some(depth)) => cache.overflow_at(goal, depth),
+        (goal, None) => match cache.success_of(goal) {
+            Some((outcome, _)) => Some(outcome),
+            None => None,
+        },
     }
 }
 

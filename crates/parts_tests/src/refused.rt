@@ -2,7 +2,7 @@
 //! In a plain run nothing is refused, and each call succeeds at once; `tests/memory` refuses the requests in turn. A call
 //! that needs no memory then is one that has to succeed.
 
-ghost use Rattle.std.specs.Prelude.{◌≡◌, ◌≢◌, ◌<◌, ◌≤◌, [], All, IfOk, OnOk};
+ghost use Rattle.std.specs.Prelude.{◌≡◌, ◌≢◌, ◌<◌, ◌≤◌, [], All, IfOk, length, OnOk};
 ghost use Rattle.parts_tests.specs.Within.{AreWithin};
 
 use bitflags::Flags;
@@ -126,15 +126,14 @@ fn keeps_nested_goal<X: Cx<Input = PathKind>>(
     Ok(is_joined && goals.get(goal) == Some(both))
 }
 
-/// Inserts these goals with the path of no step to each.
-fn insert_all<X: Cx<Input = PathKind>>(
-    goals: &mut NestedGoals<X>,
-    inputs: &[PathKind],
-) -> Result<(), NoMemory> {
+/// Inserts these goals with the path of no step to each, and says whether there was memory.
+fn inserts_all<X: Cx<Input = PathKind>>(goals: &mut NestedGoals<X>, inputs: &[PathKind]) -> bool {
     for goal in inputs {
-        goals.insert(*goal, PathsToNested::EMPTY)?;
+        if goals.insert(*goal, PathsToNested::EMPTY).is_err() {
+            return false;
+        }
     }
-    Ok(())
+    true
 }
 
 /// Whether there are so many goals, and these are the paths to the unknown one.
@@ -157,8 +156,9 @@ fn extends<X: Cx<Input = PathKind>>(
     goals: &mut NestedGoals<X>,
     child: &mut NestedGoals<X>,
 ) -> Result<bool, NoMemory> {
-    insert_all(child, &KINDS)?;
-    insert_all(goals, &[PathKind::Unknown])?;
+    if !inserts_all(child, &KINDS) || !inserts_all(goals, &[PathKind::Unknown]) {
+        return Err(NoMemory);
+    }
     let step = PathKind::Coinductive;
     if goals.extend_from_child(step, child).is_err() {
         if !has_unknown(goals, 1, PathsToNested::EMPTY) {
@@ -180,7 +180,9 @@ fn takes_at_last<X: Cx<Input = PathKind>>(
     alloc: Global,
     goals: &mut NestedGoals<X>,
 ) -> Result<bool, NoMemory> {
-    insert_all(goals, &[PathKind::Unknown])?;
+    if !inserts_all(goals, &[PathKind::Unknown]) {
+        return Err(NoMemory);
+    }
     if !takes(alloc, goals)? {
         if !has_unknown(goals, 1, PathsToNested::EMPTY) {
             return Ok(false);
@@ -197,7 +199,9 @@ fn takes<X: Cx<Input = PathKind>>(
     goals: &mut NestedGoals<X>,
 ) -> Result<bool, NoMemory> {
     let mut child = NestedGoals::<X>::new(alloc);
-    insert_all(&mut child, &[PathKind::Inductive, PathKind::Coinductive])?;
+    if !inserts_all(&mut child, &[PathKind::Inductive, PathKind::Coinductive]) {
+        return Err(NoMemory);
+    }
     Ok(
         goals
             .take_from_child(PathKind::Coinductive, &mut child)
@@ -355,9 +359,26 @@ where
         return Err(NoMemory);
     }
     let done = done_goal::<X>(alloc)?;
+    rebases_or_empties_over::<X, D>(alloc, cx, &done, &stack, reason)
+}
+
+/// The same with this goal, over this stack.
+fn rebases_or_empties_over<X, D>(
+    alloc: Global,
+    cx: X,
+    done: &StackEntry<X>,
+    stack: &Stack<X>,
+    reason: usize,
+) -> Result<bool, NoMemory>
+where
+    X: Cx<Input = PathKind, Result = Outcome, AmbiguityInfo = ()>,
+    D: Delegate<Cx = X>,
+    requires heads { All (λ head. head.0.0 < 1) done.now.state.heads }
+    requires one { length stack.now ≡ 1 }
+{
     let mut cache = ProvisionalCache::<D>::new(alloc);
     append_two(&mut cache, alloc, GOAL)?;
-    let is_done = cache.rebase(cx, &done, &stack, reason_of(reason)).is_ok();
+    let is_done = cache.rebase(cx, done, stack, reason_of(reason)).is_ok();
     Ok(cache.is_empty() != is_done)
 }
 
