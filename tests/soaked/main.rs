@@ -2,6 +2,7 @@
 //! then, and says what it tells.
 #![tactic(auto)]
 
+mod bare_calls;
 mod chance;
 mod failed;
 mod tables;

@@ -1,8 +1,8 @@
 //! Random tables for as long as one likes, with frames that are refused memory now and then.
 
+use crate::bare_calls::{evaluate, has_accepted_graph, new_cache, new_graph};
 use crate::chance::Chance;
 use crate::failed::{Failed, ensure};
-use bare_calls::{evaluate, has_accepted_graph, new_cache, new_graph};
 use delegate_parts::{Builder, Outcome};
 use rule_tables::delegate::Table;
 use rule_tables::{Goal, Rules, TableDelegate};

@@ -7,8 +7,9 @@
 //! | `searches` | searches, by functions of their own, and the uses of the library |
 //! | `programs` | the programs, of what no text shows |
 //!
-//! They share `chance`, numbers that look random.
+//! They share `chance`, numbers that look random, and `accepted`, whether the checker accepts a graph that is handed out.
 
+mod accepted;
 mod chance;
 mod parts;
 mod programs;

@@ -4,7 +4,7 @@
 
 ghost use Rattle.std.specs.Prelude.{◌≤◌};
 
-use explain_terminal::{OnTerminal, Order, Task, order_of, status_of_error};
+use explain_terminal::{OnTerminal, Order, Task, order_of};
 use shown_graphs::{check, explain};
 use std::fs::File;
 use std::io;
@@ -22,7 +22,7 @@ fn run(rt: HostRuntime) -> u8
         let _ = writeln!(rt.stderr(), "the arguments could not be read");
         return 2;
     };
-    match order_of(rt.alloc(), words.as_slice()) {
+    match order_of(&rt, words.as_slice()) {
         Ok(Order { task, file: None }) => perform(&rt, task, rt.stdin()),
         Ok(
             Order {
@@ -30,10 +30,7 @@ fn run(rt: HostRuntime) -> u8
                 file: Some(path),
             },
         ) => perform_on_file(&rt, task, path),
-        Err(error) => {
-            let _ = error.print(&rt);
-            status_of_error(&error)
-        }
+        Err(status) => status,
     }
 }
 

@@ -1,5 +1,5 @@
 //! The words of the command line.
-ghost use Rattle.std.specs.Prelude.{◌≡◌, ◌≢◌, ◌⊎◌};
+ghost use Rattle.std.specs.Prelude.{◌≡◌, ◌≢◌, ◌≤◌, ◌⊎◌, IfErr};
 ghost use Rattle.clap.specs.Words.{kind_of};
 
 use clap::error::ErrorKind;
@@ -26,8 +26,22 @@ pub struct Order<'a> {
 /// How many levels are shown where no number is given.
 const DEPTH: &str = "100";
 
-/// What the words ask for, the first of which is the program's name. An error has the usage.
-pub fn order_of<'a>(alloc: Global, words: &'a [String]) -> Result<Order<'a>, Error> {
+/// What the words ask for, the first of which is the program's name. Where they name no task, help or what is wrong was written,
+/// and this is the exit status, by `status_of_error`. What the command line is read with is known to this crate alone.
+pub fn order_of<'a>(rt: &HostRuntime, words: &'a [String]) -> Result<Order<'a>, u8>
+    ensures { IfErr result (λ status. status ≤ 4) }
+{
+    match order_in(rt.alloc(), words) {
+        Ok(order) => Ok(order),
+        Err(error) => {
+            let _ = error.print(rt);
+            Err(status_of_error(&error))
+        }
+    }
+}
+
+/// What the words ask for. An error has the usage.
+fn order_in<'a>(alloc: Global, words: &'a [String]) -> Result<Order<'a>, Error> {
     let matches = command(alloc)?.try_get_matches_from(words)?;
     Ok(Order {
         task: task_of(&matches),
@@ -37,13 +51,14 @@ pub fn order_of<'a>(alloc: Global, words: &'a [String]) -> Result<Order<'a>, Err
 
 /// The exit status where the words name no task: 0 where help was asked for, 4 where memory was out, and 2 where the words are
 /// wrong.
-pub fn status_of_error(error: &Error) -> u8
+fn status_of_error(error: &Error) -> u8
     ensures shown { (kind_of error.now ≡ ErrorKind.DisplayHelp)
         ⊎ (kind_of error.now ≡ ErrorKind.DisplayVersion) → result ≡ 0 }
     ensures memory { kind_of error.now ≡ ErrorKind.OutOfMemory → result ≡ 4 }
     ensures wrong { kind_of error.now ≢ ErrorKind.DisplayHelp
         → kind_of error.now ≢ ErrorKind.DisplayVersion
         → kind_of error.now ≢ ErrorKind.OutOfMemory → result ≡ 2 }
+    ensures status { result ≤ 4 }
 {
     match error.kind() {
         ErrorKind::DisplayHelp | ErrorKind::DisplayVersion => 0,

@@ -1,8 +1,10 @@
 //! The questions of a table, some of which may be refused memory.
 
+use crate::bare_calls::{
+    evaluate, evaluate_list, has_accepted_graph, is_idle, new_cache, new_graph,
+};
 use crate::failed::{Failed, ensure};
 use crate::stored::Stored;
-use bare_calls::{evaluate, evaluate_list, has_accepted_graph, is_idle, new_cache, new_graph};
 use delegate_parts::{Builder, Outcome};
 use rule_tables::{Goal, Rules};
 use search_graph::graph::SearchGraph;

@@ -1,13 +1,15 @@
 //! Tests of what happens where memory is out. The program reads inputs of the programs, asks their questions twice and
 //! between that at another depth, and says what they come to. Any one of its requests for memory may be refused: then a
-//! question may meet a fault, but it leaves all as it was, and is answered as ever when it is asked again. `tests/memory`
-//! refuses the requests one after the other.
+//! question may meet a fault, but it leaves all as it was, and is answered as ever when it is asked again; of other inputs, the
+//! first question is answered a second time without memory. `tests/memory` refuses the requests one after the other.
 #![tactic(auto)]
 
 mod alike;
 mod asked;
+mod bare_calls;
 mod failed;
 mod stored;
+mod without_memory;
 
 use alike::write_alike;
 use asked::Asked;
@@ -19,6 +21,7 @@ use std::alloc::{AllocError, Global};
 use std::io;
 use std::io::{BufWriter, Read, Write};
 use std::test::Fail;
+use without_memory::answer_again;
 
 /// The byte between two inputs.
 const BETWEEN: u8 = 0x1e;
@@ -41,6 +44,9 @@ fn answer_input(rt: &HostRuntime, run: &[u8]) -> Result<(), Fail> {
     if let Some(words) = head.strip_prefix(b"alike ") {
         return print_alike(rt, number_in(words)?);
     }
+    if head == b"without memory".as_slice() {
+        return tell_answer(rt, answer_at_last(rt.alloc(), text));
+    }
     tell_answers(rt, answers_at_last(rt.alloc(), head, text))
 }
 
@@ -56,6 +62,21 @@ fn answers_at_last(alloc: Global, head: &[u8], text: &[u8]) -> Result<Asked, Fai
     match answers_in(alloc, head, text) {
         Err(Failed::Memory) => answers_in(alloc, head, text),
         found => found,
+    }
+}
+
+/// What the first question comes to, and again without memory; tried again where what comes before that was refused.
+fn answer_at_last(alloc: Global, text: &[u8]) -> Result<Outcome, Failed> {
+    match answer_again(alloc, text) {
+        Err(Failed::Memory) => answer_again(alloc, text),
+        found => found,
+    }
+}
+
+fn tell_answer(rt: &impl Print, found: Result<Outcome, Failed>) -> Result<(), Fail> {
+    match found {
+        Ok(outcome) => tell_each(rt, &[outcome]),
+        Err(failed) => tell_failed(rt, failed),
     }
 }
 

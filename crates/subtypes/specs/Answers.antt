@@ -7,8 +7,8 @@ use Rattle.search_context.specs.declared.context.Fault.{Fault}
 use Rattle.type_order.specs.declared.delegate.Pair.{Pair}
 use Rattle.type_order.specs.Subtypes.{IsBelow}
 use Rattle.type_order.specs.declared.types.Form.{Form}
-use Rattle.subtypes.specs.Told.{line_told}
-use Rattle.subtypes.specs.declared.program.questions.Told.{Told}
+use Rattle.answer_lines.specs.Types.{line_told}
+use Rattle.answer_lines.specs.declared.types.Told.{Told}
 use Rattle.type_texts.specs.declared.table.TypeTable.{TypeTable}
 use Rattle.type_texts.specs.Table.{forms_in, names_of, questions_of}
 

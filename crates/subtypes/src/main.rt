@@ -2,7 +2,6 @@
 //!
 //! | File of `specs/` | Has |
 //! |---|---|
-//! | `Told` | what a question came to, and the line that tells it |
 //! | `Answers` | what the answers of a text's questions are |
 //! | `Stop`, `Program` | why the program ends early, and what a run of it came to |
 #![tactic(auto)]

@@ -6,7 +6,6 @@ ghost use Rattle.subtypes.specs.Stop.{status_of};
 
 mod questions;
 mod reason;
-mod text;
 
 use line_texts::{Flush, InputFault, read_input};
 use questions::answer_questions;

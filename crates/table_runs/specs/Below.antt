@@ -2,7 +2,6 @@
 pub use Rattle.path_kinds.specs.declared.memory.NoMemory.{NoMemory}
 pub use Rattle.path_kinds.specs.declared.path.PathKind.TheVariants.{Coinductive, Inductive}
 pub use Rattle.delegate_parts.specs.Builder.{is_noop_of, started_in}
-pub use Rattle.delegate_parts.specs.Outcome.{word_of}
 pub use Rattle.delegate_parts.specs.declared.builder.Builder.{Builder}
 pub use Rattle.delegate_parts.specs.declared.outcome.Outcome.{Outcome}
 pub use Rattle.search_context.specs.Verdicts.{IsDefinite, verdicts, Verdicts}
@@ -17,7 +16,7 @@ unfoldable pub use Rattle.search_context.specs.Rank.{frames_within}
 pub use Rattle.search_context.specs.declared.context.Cx.{Ghosts as CxOf}
 pub use Rattle.search_context.specs.declared.context.Delegate.{Ghosts as DelegateOf}
 pub use Rattle.search_context.specs.declared.context.Fault.{Fault}
-pub use Rattle.search_context.specs.declared.context.Fault.TheVariants.{Conflict, Memory, Protocol, Validation}
+pub use Rattle.search_context.specs.declared.context.Fault.TheVariants.{Memory}
 pub use Rattle.search_context.specs.declared.context.Node.{Node}
 pub use Rattle.search_context.specs.declared.context.NodeId.{NodeId}
 pub use Rattle.search_context.specs.declared.context.Reply.{Reply}

@@ -1,11 +1,12 @@
--- What a question came to, and the line that tells it.
-use Rattle.std.specs.Prelude.{◌≡◌, ◌≢◌, ◌↔◌, ℕ, Bool, true, false, List, [], ◌++◌, Result, Ok, Err, codes, decimal}
+-- What a question came to, and the line of one that was asked of rules.
+use Rattle.std.specs.Prelude.{◌≡◌, ◌≢◌, ◌↔◌, ℕ, Bool, true, false, List, [], Result, Ok, Err}
 use Rattle.std.specs.Option.{unwrap_or}
 use Rattle.line_texts.specs.Questions as asked
-use Rattle.table_runs.specs.Below.{Fault, Memory, Conflict, Validation, Protocol, Outcome, word_of, IsDefinite, Verdicts, Goal, Rules, name_of}
-use Rattle.table_runs.specs.declared.program.questions.Told.{Told}
-use Rattle.table_runs.specs.declared.program.questions.Check.{Check}
-use Rattle.table_runs.specs.declared.program.questions.Check.TheVariants.{None, Accepted, Refused}
+use Rattle.answer_lines.specs.Goals.{line_told}
+use Rattle.answer_lines.specs.declared.goals.Told.{Told}
+use Rattle.answer_lines.specs.declared.goals.Check.{Check}
+use Rattle.answer_lines.specs.declared.goals.Check.TheVariants.{None, Accepted, Refused}
+use Rattle.table_runs.specs.Below.{Fault, Outcome, IsDefinite, Verdicts, Goal, Rules, name_of}
 use Rattle.table_runs.specs.declared.program.questions.Checks.{Checks}
 use Rattle.table_runs.specs.declared.program.questions.Checks.TheVariants.{EachGraph}
 
@@ -27,32 +28,6 @@ is_fine (Err fault) = false
 pub record IsChecked (says : Verdicts Outcome) (checks : Checks) (outcome : Outcome) (check : Check) : Type 0 where
   pub exact : (check ≡ Accepted) ↔ ((checks ≡ EachGraph) × IsDefinite says outcome)
   pub not_refused : check ≢ Refused
-
--- what follows the number of frames
-abbrev pub check_words : Check → List ℕ
-check_words None = []
-check_words Accepted = codes " checked"
-check_words Refused = codes " unchecked"
-
--- the fault's word
-abbrev pub fault_word_of : Fault Goal Outcome → List ℕ
-fault_word_of Memory = codes "memory"
-fault_word_of (Conflict input stored found) = codes "conflict"
-fault_word_of (Validation input stored found) = codes "validation"
-fault_word_of (Protocol number) = codes "protocol"
-
--- what follows the name: ` yes 3 checked`, and a newline
-abbrev pub told_words : Told → List ℕ
-told_words told = codes " " ++ word_of told.outcome ++ codes " " ++ decimal told.started ++ check_words told.check ++ codes "\n"
-
--- the same, or ` fault memory` and a newline
-abbrev pub words_of_answer : Result Told (Fault Goal Outcome) → List ℕ
-words_of_answer (Ok told) = told_words told
-words_of_answer (Err fault) = codes " fault " ++ fault_word_of fault ++ codes "\n"
-
--- the line of a question: its goal's name, and what it came to
-abbrev pub line_told : List ℕ → Result Told (Fault Goal Outcome) → List ℕ
-line_told name came = name ++ words_of_answer came
 
 -- the line of a question that was asked of these rules
 abbrev pub line_of : Rules → AnsweredQuestion → List ℕ

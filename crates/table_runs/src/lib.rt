@@ -9,7 +9,8 @@
 
 mod program;
 
-pub use program::{answer, fault_word, run};
+pub use answer_lines::fault_word;
+pub use program::{answer, run};
 pub use rule_tables::{
     Builder, Candidate, Candidates, Goal, Outcome, ReadFault, Rules, TableDelegate, delegate, rules,
 };

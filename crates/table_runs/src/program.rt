@@ -8,7 +8,6 @@ mod questions;
 mod shown;
 
 use line_texts::{Flush, read_input};
-pub use questions::fault_word;
 use questions::{Checks, answer_questions};
 use rule_tables::delegate::Table;
 use rule_tables::{Goal, Rules, Stop, TableDelegate};

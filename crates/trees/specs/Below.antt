@@ -1,5 +1,4 @@
 -- What the crates below have, from one place.
-pub use Rattle.delegate_parts.specs.Outcome.{word_of}
 pub use Rattle.delegate_parts.specs.declared.outcome.Outcome.{Outcome}
 pub use Rattle.proof_trees.specs.Text.{text_of}
 pub use Rattle.proof_trees.specs.declared.entry.Entry.{Entry}
@@ -8,7 +7,6 @@ pub use Rattle.rule_tables.specs.declared.rules.Goal.{Goal}
 pub use Rattle.rule_tables.specs.declared.rules.Rules.{Rules}
 pub use Rattle.search_context.specs.declared.context.Answer.{Answer}
 pub use Rattle.search_context.specs.declared.context.Fault.{Fault}
-pub use Rattle.search_context.specs.declared.context.Fault.TheVariants.{Conflict, Memory, Protocol, Validation}
 pub use Rattle.search_context.specs.Rank.{IsPlainTo, IsPlainValue}
 pub use Rattle.search_context.specs.declared.context.Cx.{Ghosts as CxOf}
 pub use Rattle.search_context.specs.declared.context.Reply.{Reply}

@@ -1,18 +1,7 @@
 -- What is shown of a question.
-use Rattle.std.specs.Prelude.{◌≡◌, ℕ, ◌≤◌, Bool, true, false, List, ◌++◌, codes, decimal, is_ok, Result, Ok, Err, IfOk}
-use Rattle.trees.specs.Below.{Outcome, word_of, text_of, Entry, name_or_none, words_of, Goal, Rules, Answer, Fault, Conflict, Memory, Protocol, Validation, CxOf, Cache, IsPlainTo, IsPlainValue, IsProved, IsRefuted, Reply, Request}
-
--- the fault's word
-abbrev pub fault_word_of : Fault Goal Outcome → List ℕ
-fault_word_of Memory = codes "memory"
-fault_word_of (Conflict input stored found) = codes "conflict"
-fault_word_of (Validation input stored found) = codes "validation"
-fault_word_of (Protocol number) = codes "protocol"
-
--- what follows the name, with an empty line
-abbrev pub answer_words : Result (Answer Outcome) (Fault Goal Outcome) → ℕ → List ℕ
-answer_words (Ok answer) started = codes " " ++ word_of answer.result ++ codes " " ++ decimal started ++ codes "\n\n"
-answer_words (Err fault) started = codes " fault " ++ fault_word_of fault ++ codes "\n\n"
+use Rattle.std.specs.Prelude.{◌≡◌, ℕ, ◌≤◌, Bool, true, false, List, ◌++◌, is_ok, Result, IfOk}
+use Rattle.answer_lines.specs.Trees.{answer_words}
+use Rattle.trees.specs.Below.{Outcome, text_of, Entry, name_or_none, words_of, Goal, Rules, Answer, Fault, CxOf, Cache, IsPlainTo, IsPlainValue, IsProved, IsRefuted, Reply, Request}
 
 -- A cache that is about this context has the answer's proof graph if it is yes, and its refutation graph if it is no.
 pub record HasItsGraph {C A T : Type 0} (X : CxOf C Goal Outcome A T) (cx : C) (goal : Goal) (answer : Answer Outcome) : Type 0 where

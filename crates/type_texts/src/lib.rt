@@ -1,5 +1,5 @@
 //! Texts that declare types and ask of two of them whether the one is below the other, and what such a text says: a table
-//! of the types of `type_order`, with their names.
+//! of the types of `type_order`, with their names; and the words of a reason why one is not below another.
 //!
 //! | File of `specs/` | Has |
 //! |---|---|
@@ -14,6 +14,7 @@ mod entering;
 mod guard;
 mod line;
 mod reading;
+pub mod reasons;
 mod table;
 mod written;
 

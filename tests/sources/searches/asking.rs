@@ -1,6 +1,6 @@
 //! Goals that are asked on a graph of their own.
 
-use bare_calls::{evaluate, is_idle, new_graph};
+use search_graph::graph::SearchGraph;
 use search_parts::context::{Answer, Cx, Delegate, Fault};
 use search_parts::global_cache::GlobalCache;
 use search_parts::path::PathKind;
@@ -19,9 +19,9 @@ where
     X: Cx,
     D: Delegate<Cx = X>,
 {
-    let mut graph = new_graph::<X, D>(alloc, depth);
-    let answer = evaluate::<X, D>(&mut graph, cache, goal, PathKind::Inductive, builder);
-    if !is_idle::<X, D>(&graph) {
+    let mut graph = SearchGraph::<D>::new(alloc, depth);
+    let answer = graph.evaluate_goal(cache, goal, PathKind::Inductive, builder);
+    if !graph.is_empty() || graph.debug_current_depth() > 0 {
         return Err("goals are left under evaluation")?;
     }
     Ok((answer, graph.limits_met()))

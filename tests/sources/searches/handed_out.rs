@@ -1,7 +1,6 @@
 //! Graphs that a search handed out over a table of rules, and the checker's word on any graph.
 
 use crate::searches::asking::ask;
-use bare_calls::new_cache;
 use graph_check::check_graph;
 use rule_tables::delegate::Table;
 use rule_tables::{Builder, Goal, Outcome, Rules, TableDelegate};
@@ -39,7 +38,7 @@ where
     X: Cx<Input = Goal, Result = Outcome>,
     D: Delegate<Cx = X, ProofTreeBuilder = Builder>,
 {
-    let mut cache = new_cache::<X, D>(alloc, cx);
+    let mut cache = GlobalCache::<D>::new(alloc, cx);
     graph_over::<X, D>(alloc, &mut cache, depth, goal)
 }
 

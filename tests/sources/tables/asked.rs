@@ -1,6 +1,6 @@
 //! Goals that are asked, whatever they are.
 
-use bare_calls::{evaluate, has_accepted_graph, new_graph};
+use crate::accepted::has_accepted_graph;
 use delegate_parts::{Builder, Outcome};
 use search_graph::graph::SearchGraph;
 use search_parts::context::{Answer, Cx, Delegate, Fault, NoMemory};
@@ -76,9 +76,9 @@ where
     X: Cx<Result = Outcome>,
     D: Delegate<Cx = X, ProofTreeBuilder = Builder>,
 {
-    let mut graph = new_graph::<X, D>(alloc, depth);
+    let mut graph = SearchGraph::<D>::new(alloc, depth);
     let mut builder = Builder::new(noop);
-    let came = evaluate::<X, D>(&mut graph, cache, goal, PathKind::Inductive, &mut builder);
+    let came = graph.evaluate_goal(cache, goal, PathKind::Inductive, &mut builder);
     answered_from::<X>(came, builder.started(), graph.limits_met())
 }
 

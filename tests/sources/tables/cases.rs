@@ -5,7 +5,6 @@ use crate::tables::drawing::{start_line, write_graph};
 use crate::tables::idle::write_idle;
 use crate::tables::lists::{answers_to, lists_have};
 use crate::tables::trees::{write_record, write_tree};
-use bare_calls::new_cache;
 use delegate_parts::{Builder, Outcome};
 use rule_tables::delegate::Table;
 use rule_tables::{Goal, Rules, TableDelegate};
@@ -107,7 +106,7 @@ where
     X: Cx<Input = Goal, Result = Outcome>,
     D: Delegate<Cx = X, ProofTreeBuilder = Builder>,
 {
-    let mut cache = new_cache::<X, D>(alloc, cx);
+    let mut cache = GlobalCache::<D>::new(alloc, cx);
     match answers_to::<X, D>(alloc, &mut cache, case.rules.questions(), case.ways)? {
         Ok(answers) => lines_with::<X, D>(alloc, &cache, case, answers.as_slice()),
         Err(flaw) => Ok(flaw.as_bytes().to_vec(alloc)?),

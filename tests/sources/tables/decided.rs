@@ -13,7 +13,6 @@ use crate::chance::Chance;
 use crate::tables::asked::{Way, ask};
 use crate::tables::random_tables::{Kinds, random_goals, text_of};
 use crate::tables::solved::have_proofs;
-use bare_calls::new_cache;
 use delegate_parts::{Builder, Outcome};
 use early_scripts::EarlyDelegate;
 use rule_tables::delegate::Table;
@@ -173,7 +172,7 @@ where
     X: Cx<Input = Goal, Result = Outcome>,
     D: Delegate<Cx = X, ProofTreeBuilder = Builder>,
 {
-    let mut cache = new_cache::<X, D>(alloc, cx);
+    let mut cache = GlobalCache::<D>::new(alloc, cx);
     for ((depth, goal), is_proved) in rules.questions().iter().zip(proved) {
         let answered = ask::<X, D>(alloc, &mut cache, Way::Question, *depth, *goal)?;
         if answered.limits_met {

@@ -1,10 +1,10 @@
 //! A graph between its calls, where no goal is under evaluation.
 
-use bare_calls::{evaluate, new_cache, new_graph};
 use delegate_parts::{Builder, Outcome};
 use rule_tables::Goal;
 use search_graph::graph::SearchGraph;
 use search_parts::context::{Answer, Cx, Delegate, Fault};
+use search_parts::global_cache::GlobalCache;
 use search_parts::parts::{CandidateHeadUsages, HeadUsages, StackDepth};
 use search_parts::path::PathKind;
 use std::alloc::Global;
@@ -24,7 +24,7 @@ where
     D: Delegate<Cx = X, ProofTreeBuilder = Builder>,
 {
     write!(lines, "\nidle")?;
-    let mut graph = new_graph::<X, D>(alloc, depth);
+    let mut graph = SearchGraph::<D>::new(alloc, depth);
     let ignored = graph.ignore_candidate_head_usages(CandidateHeadUsages::new(alloc));
     write_call(lines, "ignore nothing", ignored.err())?;
     let ignored = graph.ignore_candidate_head_usages(some_usages(alloc)?);
@@ -75,9 +75,9 @@ where
     if !graph.is_empty() || open > 0 {
         write!(lines, "\n{open} open")?;
     }
-    let mut cache = new_cache::<X, D>(*lines.allocator(), cx);
+    let mut cache = GlobalCache::<D>::new(*lines.allocator(), cx);
     let mut builder = Builder::new(true);
-    let answer = evaluate::<X, D>(graph, &mut cache, goal, PathKind::Inductive, &mut builder)?;
+    let answer = graph.evaluate_goal(&mut cache, goal, PathKind::Inductive, &mut builder)?;
     write_answer(lines, answer, builder.started())
 }
 

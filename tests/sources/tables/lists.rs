@@ -1,9 +1,9 @@
 //! Questions over tables, one after the other, and the same as lists.
 
 use crate::tables::asked::{Answered, Way, ask, is_shown};
-use bare_calls::{evaluate_list, new_cache};
 use delegate_parts::{Builder, Outcome};
 use rule_tables::Goal;
+use search_graph::graph::SearchGraph;
 use search_parts::context::{Answer, Cx, Delegate, Fault};
 use search_parts::global_cache::GlobalCache;
 use search_parts::path::PathKind;
@@ -53,11 +53,11 @@ where
         queries.push((*depth, *goal, PathKind::Inductive))?;
     }
     let (first, others) = queries.split_at_checked(first).ok_or("no question")?;
-    let mut cache = new_cache::<X, D>(alloc, cx);
+    let mut cache = GlobalCache::<D>::new(alloc, cx);
     let mut builder = Builder::new(true);
     let mut given = Vec::new(alloc);
     for list in [first, others, &[]] {
-        evaluate_list::<X, D>(&mut cache, list, &mut builder, &mut given)?;
+        SearchGraph::<D>::evaluate_list(&mut cache, list, &mut builder, &mut given)?;
     }
     are_same(given.as_slice(), builder.started(), answers)
 }

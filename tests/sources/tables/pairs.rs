@@ -17,7 +17,6 @@
 use crate::tables::asked::{Answered, Way, ask, is_definite};
 use crate::tables::lists::{answers_to, lists_have};
 use crate::tables::plain_graph::ShownGraph;
-use bare_calls::new_cache;
 use delegate_parts::{Builder, Outcome};
 use rule_tables::delegate::Table;
 use rule_tables::{Goal, Rules, TableDelegate};
@@ -238,7 +237,7 @@ where
     X: Cx<Input = Goal, Result = Outcome>,
     D: Delegate<Cx = X, ProofTreeBuilder = Builder>,
 {
-    let mut cache = new_cache::<X, D>(alloc, cx);
+    let mut cache = GlobalCache::<D>::new(alloc, cx);
     let questions = goals_of(alloc, rules, asked)?;
     let questions = questions.as_slice();
     match answers_to::<X, D>(alloc, &mut cache, questions, "")? {
@@ -341,7 +340,7 @@ where
     X: Cx<Input = Goal, Result = Outcome>,
     D: Delegate<Cx = X, ProofTreeBuilder = Builder>,
 {
-    let mut cache = new_cache::<X, D>(alloc, cx);
+    let mut cache = GlobalCache::<D>::new(alloc, cx);
     Ok(
         is_decided::<X, D>(alloc, &mut cache, rules, b"A")?
             && is_decided::<X, D>(alloc, &mut cache, rules, b"B")?,

@@ -9,7 +9,6 @@
 use crate::tables::asked::is_shown;
 use crate::tables::drawing::{draw_replies, start_line};
 use crate::tables::letters::{kind_of, letter_of};
-use bare_calls::{evaluate, is_idle, new_cache, new_graph};
 use delegate_parts::{Builder, ContextOf, Outcome};
 use search_graph::graph::SearchGraph;
 use search_parts::context::{Answer, Cx, Delegate, Fault, Node};
@@ -45,8 +44,8 @@ where
     X: Cx<Input = Goal, Result = Outcome>,
     D: Delegate<Cx = X, ProofTreeBuilder = Builder>,
 {
-    let mut cache = new_cache::<X, D>(alloc, cx);
-    let mut graph = new_graph::<X, D>(alloc, depth);
+    let mut cache = GlobalCache::<D>::new(alloc, cx);
+    let mut graph = SearchGraph::<D>::new(alloc, depth);
     let mut told = Vec::new(alloc);
     for name in names.split(' ') {
         start_line(&mut told)?;
@@ -72,13 +71,13 @@ where
 {
     let goal = goal_of(name)?;
     let mut builder = Builder::new(true);
-    let came = evaluate::<X, D>(graph, cache, goal, PathKind::Inductive, &mut builder);
+    let came = graph.evaluate_goal(cache, goal, PathKind::Inductive, &mut builder);
     tell_came(told, name, came, builder.started())?;
     if came.is_err() {
         let held = cache.held_nodes();
         write!(told, " holding {held}")?;
     }
-    tell_graph_left::<X, D>(told, graph)?;
+    tell_graph_left::<D>(told, graph)?;
     match came {
         Ok(answer) => tell_graph::<X, D>(alloc, told, cache, goal, answer),
         Err(_) => Ok(()),
@@ -86,12 +85,8 @@ where
 }
 
 /// Whether the call left goals under evaluation on the graph, and whether it met a limit.
-fn tell_graph_left<X, D>(told: &mut Vec<u8>, graph: &SearchGraph<D>) -> Result<(), Fail>
-where
-    X: Cx<Input = Goal, Result = Outcome>,
-    D: Delegate<Cx = X, ProofTreeBuilder = Builder>,
-{
-    if !is_idle::<X, D>(graph) {
+fn tell_graph_left<D: Delegate>(told: &mut Vec<u8>, graph: &SearchGraph<D>) -> Result<(), Fail> {
+    if !graph.is_empty() || graph.debug_current_depth() > 0 {
         write!(told, " open")?;
     }
     if graph.limits_met() {

@@ -1,11 +1,11 @@
 //! Proof trees that are recorded.
 
-use bare_calls::new_cache;
 use delegate_parts::{Builder, Outcome};
 use proof_trees::{Recorder, Recording, write_entries};
 use rule_tables::{Goal, Rules};
 use search_graph::graph::SearchGraph;
 use search_parts::context::{Cx, Delegate};
+use search_parts::global_cache::GlobalCache;
 use std::alloc::Global;
 use std::io::Write;
 use std::test::Fail;
@@ -26,7 +26,7 @@ where
     X: Cx<Input = Goal, Result = Outcome>,
     D: Delegate<Cx = X, ProofTreeBuilder = Builder>,
 {
-    let mut cache = new_cache::<X, Recording<D>>(alloc, cx);
+    let mut cache = GlobalCache::<Recording<D>>::new(alloc, cx);
     let mut recorder = Recorder::new(alloc, Builder::new(true), is_recording);
     let _answer = SearchGraph::<Recording<D>>::evaluate_root_goal_for_proof_tree(
         &mut cache,

@@ -1,20 +1,19 @@
 //! The questions of a text: each is asked, and told on a line.
-ghost use Rattle.std.specs.Prelude.{◌≡◌, ◌⊎◌, ◌++◌, IfErr, IfOk, OnErr, OnOk, Err};
-ghost use Rattle.std.specs.Io.KnownBytes.{Appends};
+ghost use Rattle.std.specs.Prelude.{◌≡◌, ◌⊎◌, ◌++◌, IfErr, IfOk, OnErr, OnOk};
+ghost use Rattle.answer_lines.specs.Types.{line_told};
 ghost use Rattle.line_texts.specs.Writing.{AppendsBeginning, Passes};
 ghost use Rattle.structural_types.specs.Asked.{declared_in};
 ghost use Rattle.type_order.specs.Subtypes.{forms_of};
 ghost use Rattle.subtypes.specs.Answers.{AreAllTold, AreFirstTold, IsTold, name_of};
-ghost use Rattle.subtypes.specs.Told.{answer_word_of, fault_word_of, line_told, words_of_answer};
 ghost use Rattle.type_texts.specs.Table.{forms_in};
 
 use crate::program::Stop;
 use crate::program::reason::reason_of;
+use answer_lines::types::{Told, write_line};
 use delegate_parts::Outcome;
 use line_texts::{Flush, write_bytes};
 use search_parts::context::Fault;
 use std::alloc::Global;
-use std::io;
 use std::io::Write;
 use structural_types::Subtyping;
 use type_order::{LendsTypes, Pair};
@@ -26,15 +25,6 @@ const ENOUGH: usize = 8000;
 
 /// Room for these and one short line more.
 const ROOM: usize = 8192;
-
-/// What a question came to.
-#[derive(Drop)]
-pub(super) struct Told {
-    /// Whether the left type is below the right one.
-    pub(super) is_below: bool,
-    /// What is written after a `no`, and nothing after a `yes`.
-    pub(super) reason: Vec<u8>,
-}
 
 /// Answers each question, and writes its line. The result is whether none met a fault.
 pub(super) fn answer_questions<T: LendsTypes, W: Flush>(
@@ -113,58 +103,4 @@ fn tell<W: Write>(
     write_bytes(out, waiting.as_slice())?;
     waiting.clear();
     Ok(())
-}
-
-fn write_line<W: Write>(
-    out: &mut W,
-    left: &[u8],
-    right: &[u8],
-    came: Result<Told, Fault<Pair, Outcome>>,
-) -> io::Result<()>
-    ensures { OnOk result (Appends (W.contents out.old) (W.contents out.new)
-        (line_told left.now right.now came)) }
-{
-    out.write_all(left)?;
-    out.write_all(b" < ")?;
-    out.write_all(right)?;
-    match came {
-        Ok(told) => write_told(out, told),
-        Err(fault) => write_fault(out, fault),
-    }
-}
-
-fn write_told<W: Write>(out: &mut W, told: Told) -> io::Result<()>
-    ensures { OnOk result
-        (Appends (W.contents out.old) (W.contents out.new) (words_of_answer (Ok told))) }
-{
-    let Told { is_below, reason } = told;
-    let word = answer_word(is_below);
-    write!(out, " {word}")?;
-    out.write_all(reason.as_slice())?;
-    out.write_all(b"\n")
-}
-
-fn write_fault<W: Write>(out: &mut W, fault: Fault<Pair, Outcome>) -> io::Result<()>
-    ensures { OnOk result
-        (Appends (W.contents out.old) (W.contents out.new) (words_of_answer (Err fault))) }
-{
-    let word = fault_word(fault);
-    writeln!(out, " fault {word}")
-}
-
-fn answer_word(is_below: bool) -> &'static str
-    ensures { result.now ≡ answer_word_of is_below }
-{
-    if is_below { "yes" } else { "no" }
-}
-
-fn fault_word(fault: Fault<Pair, Outcome>) -> &'static str
-    ensures { result.now ≡ fault_word_of fault }
-{
-    match fault {
-        Fault::Memory => "memory",
-        Fault::Conflict { .. } => "conflict",
-        Fault::Validation { .. } => "validation",
-        Fault::Protocol(_) => "protocol",
-    }
 }

@@ -2,7 +2,6 @@
 ghost use Rattle.std.specs.Prelude.{◌≡◌};
 ghost use Rattle.structural_types.specs.Asked.{declared_in};
 
-use crate::program::text::{write_end, write_way};
 use delegate_parts::Outcome;
 use search_parts::context::{Fault, NoMemory};
 use std::alloc::Global;
@@ -10,27 +9,7 @@ use std::collections::HashSet;
 use structural_types::Subtyping;
 use type_order::{Field, Form, LendsTypes, Pair, Types};
 use type_texts::TypeTable;
-
-/// A step from a pair to one of its parts.
-#[derive(Clone, Copy)]
-pub(super) enum Step {
-    /// To an alternative of the left type, which leaves no trace in the text.
-    Alternative,
-    Argument,
-    Result,
-    Field(u32),
-}
-
-/// How a pair fails by itself.
-#[derive(Clone, Copy)]
-pub(super) enum End {
-    /// Its types have other forms.
-    Apart,
-    /// The right one is a union, and no alternative fits.
-    NoAlternative,
-    /// The left record lacks a field of the right one.
-    Lacks(u32),
-}
+use type_texts::reasons::{Step, end_of, part_of, write_end, write_way};
 
 /// A pair of which the left type is not below the right one, and the step by which it was found.
 #[derive(Clone, Copy)]
@@ -188,37 +167,4 @@ impl Search {
         }
         Ok(way)
     }
-}
-
-// How the pair fails by itself, if it does so whatever its parts are, or if its right type is a union.
-fn end_of(types: &Types, pair: Pair) -> Option<End> {
-    match (types.form(pair.left), types.form(pair.right)) {
-        (Some(Form::Union(_)), _) => None,
-        (_, Some(Form::Union(_))) => Some(End::NoAlternative),
-        (Some(Form::Function(_, _)), Some(Form::Function(_, _))) => None,
-        (Some(Form::Record(fields)), Some(Form::Record(others))) => {
-            first_lack(fields.as_slice(), others.as_slice()).map(End::Lacks)
-        }
-        _ => Some(End::Apart),
-    }
-}
-
-// The first of the other fields that is none of these.
-fn first_lack(fields: &[Field], others: &[Field]) -> Option<u32> {
-    for other in others {
-        if part_of(fields, other.name).is_none() {
-            return Some(other.name);
-        }
-    }
-    None
-}
-
-// The type of the field of this name.
-fn part_of(fields: &[Field], name: u32) -> Option<usize> {
-    for field in fields {
-        if field.name == name {
-            return Some(field.part);
-        }
-    }
-    None
 }

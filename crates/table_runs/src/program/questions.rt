@@ -1,13 +1,13 @@
 //! The questions of a table: each is asked, and told on a line.
-ghost use Rattle.std.specs.Prelude.{codes, ◌≡◌, ◌≢◌, ◌⊎◌, ◌++◌, IfErr, IfOk, OnErr, OnOk, Err};
-ghost use Rattle.std.specs.Io.KnownBytes.{Appends};
-ghost use Rattle.delegate_parts.specs.Outcome.{word_of};
+ghost use Rattle.std.specs.Prelude.{◌≡◌, ◌≢◌, ◌⊎◌, ◌++◌, IfErr, IfOk, OnErr, OnOk};
+ghost use Rattle.answer_lines.specs.Goals.{line_told};
 ghost use Rattle.table_runs.specs.Answers.{AreAllTold, AreCountedStarts, AreFirstTold, IsAnswered};
 ghost use Rattle.table_runs.specs.Below.{HasGraph, verdicts};
 ghost use Rattle.line_texts.specs.Writing.{AppendsBeginning, Passes};
-ghost use Rattle.table_runs.specs.Told.{check_words, fault_word_of, IsChecked, is_fine, line_told, told_words, words_of_answer};
+ghost use Rattle.table_runs.specs.Told.{IsChecked, is_fine};
 
 use crate::program::shown::ShownNodes;
+use answer_lines::goals::{Check, Told, write_line};
 use delegate_parts::{Builder, Outcome};
 use line_texts::{Flush, write_bytes};
 use rule_tables::{Goal, Rules, Stop};
@@ -17,7 +17,6 @@ use search_parts::global_cache::GlobalCache;
 use search_parts::path::PathKind;
 use std::alloc::Global;
 use std::io::Write;
-use std::{fmt, io};
 
 /// A write of its own for each line would take longer than a question that the cache answers, so this many bytes
 /// wait for each other.
@@ -32,41 +31,6 @@ pub(super) enum Checks {
     /// The graph of each definite one.
     EachGraph,
     Nothing,
-}
-
-/// What came of checking an answer's graph.
-#[derive(Clone, Copy, PartialEq, Eq)]
-pub(super) enum Check {
-    /// The answer has no graph, or graphs are not checked.
-    None,
-    Accepted,
-    /// The graph is missing, or it was refused.
-    Refused,
-}
-
-impl fmt::Display for Check {
-    ghost use Rattle.std.specs.Prelude.{Some};
-    ghost use Rattle.table_runs.specs.Below.{HasGraph, verdicts};
-    ghost use Rattle.table_runs.specs.Told.{check_words};
-
-    ghost output = { λ check. Some (check_words check) };
-
-    fn fmt<W: fmt::Write>(&self, f: &mut fmt::Formatter<W>) -> fmt::Result {
-        f.write_str(match self {
-            Check::None => "",
-            Check::Accepted => " checked",
-            Check::Refused => " unchecked",
-        })
-    }
-}
-
-/// What a question came to.
-#[derive(Clone, Copy)]
-pub(super) struct Told {
-    pub(super) outcome: Outcome,
-    /// How many frames the question started.
-    pub(super) started: u64,
-    pub(super) check: Check,
 }
 
 /// Answers each question on a graph of its own, over one cache, and writes its line. The result is whether none met
@@ -144,61 +108,6 @@ fn tell<W: Write>(
     Ok(())
 }
 
-// Appends the line of a question. Its words go into the list of bytes in few pieces, since there is one for each question.
-fn write_line(
-    line: &mut Vec<u8>,
-    name: &[u8],
-    came: Result<Told, Fault<Goal, Outcome>>,
-) -> io::Result<()>
-    ensures { OnOk result (line.new.items ≡ line.old.items ++ line_told name.now came) }
-{
-    line.extend_from_slice(name)?;
-    match came {
-        Ok(told) => write_told(line, told),
-        Err(fault) => write_fault(line, fault),
-    }
-}
-
-fn write_told(line: &mut Vec<u8>, told: Told) -> io::Result<()>
-    ensures { OnOk result (line.new.items ≡ line.old.items ++ told_words told) }
-{
-    line.extend_from_slice(outcome_words(told.outcome))?;
-    let started = told.started;
-    write!(line, "{started}")?;
-    line.extend_from_slice(end_words(told.check))?;
-    Ok(())
-}
-
-// The outcome's word, with a space on both sides.
-fn outcome_words(outcome: Outcome) -> &'static [u8]
-    ensures { result.now ≡ codes " " ++ word_of outcome ++ codes " " }
-{
-    match outcome {
-        Outcome::Yes => b" yes ",
-        Outcome::No => b" no ",
-        Outcome::Maybe => b" maybe ",
-        Outcome::Overflow => b" overflow ",
-    }
-}
-
-// What the check came to, and the end of the line.
-fn end_words(check: Check) -> &'static [u8]
-    ensures { result.now ≡ check_words check ++ codes "\n" }
-{
-    match check {
-        Check::None => b"\n",
-        Check::Accepted => b" checked\n",
-        Check::Refused => b" unchecked\n",
-    }
-}
-
-fn write_fault(line: &mut Vec<u8>, fault: Fault<Goal, Outcome>) -> io::Result<()>
-    ensures { OnOk result (line.new.items ≡ line.old.items ++ words_of_answer (Err fault)) }
-{
-    let word = fault_word(fault);
-    writeln!(line, " fault {word}")
-}
-
 /// Asks the goal at this depth, and checks the graph of a definite answer if that is wanted. The search graph may be any: it
 /// is as good as a new one, and has the memory of its last call.
 fn ask<X, D>(
@@ -256,17 +165,5 @@ where
             }
         }
         _ => Ok(Check::None),
-    }
-}
-
-/// The word that tells the fault.
-pub fn fault_word(fault: Fault<Goal, Outcome>) -> &'static str
-    ensures { result.now ≡ fault_word_of fault }
-{
-    match fault {
-        Fault::Memory => "memory",
-        Fault::Conflict { .. } => "conflict",
-        Fault::Validation { .. } => "validation",
-        Fault::Protocol(_) => "protocol",
     }
 }

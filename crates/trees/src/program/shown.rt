@@ -1,18 +1,17 @@
 //! How one question is answered.
-ghost use Rattle.std.specs.Prelude.{◌≡◌, IfOk, OnOk};
-ghost use Rattle.std.specs.Io.KnownBytes.{Appends};
-ghost use Rattle.trees.specs.Shown.{answer_words, fault_word_of, IsTreeShown};
+ghost use Rattle.std.specs.Prelude.{IfOk};
+ghost use Rattle.trees.specs.Shown.{IsTreeShown};
 
+use answer_lines::trees::write_answer;
 use delegate_parts::{Builder, Outcome};
 use proof_trees::{Recorder, Recording, Words, write_entries};
 use rule_tables::delegate::Table;
 use rule_tables::{Goal, Rules, TableDelegate};
 use search_graph::graph::SearchGraph;
-use search_parts::context::{Answer, Cx, Delegate, Fault};
+use search_parts::context::{Cx, Delegate};
 use search_parts::global_cache::GlobalCache;
 use std::alloc::Global;
 use std::io;
-use std::io::Write;
 use table_words::TableWords;
 
 /// Writes the tree of the goal at this depth, its answer, and an empty line. The result is whether no fault was met. The
@@ -60,35 +59,4 @@ where
     words.write_goal(text, goal)?;
     write_answer(text, came, recorder.inner().started())?;
     Ok(came.is_ok())
-}
-
-fn write_answer<W: Write>(
-    out: &mut W,
-    came: Result<Answer<Outcome>, Fault<Goal, Outcome>>,
-    started: u64,
-) -> io::Result<()>
-    ensures { OnOk result
-        (Appends (W.contents out.old) (W.contents out.new) (answer_words came started)) }
-{
-    match came {
-        Ok(answer) => {
-            let outcome = answer.result;
-            write!(out, " {outcome} {started}\n\n")
-        }
-        Err(fault) => {
-            let word = fault_word(fault);
-            write!(out, " fault {word}\n\n")
-        }
-    }
-}
-
-fn fault_word(fault: Fault<Goal, Outcome>) -> &'static str
-    ensures { result.now ≡ fault_word_of fault }
-{
-    match fault {
-        Fault::Memory => "memory",
-        Fault::Conflict { .. } => "conflict",
-        Fault::Validation { .. } => "validation",
-        Fault::Protocol(_) => "protocol",
-    }
 }

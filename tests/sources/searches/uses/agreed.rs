@@ -1,9 +1,10 @@
 //! The search beside the plain fixpoint, and the checker beside both.
 
+use crate::accepted::has_accepted_graph;
 use crate::searches::uses::plain::{Pairs, pairs_below};
-use bare_calls::{evaluate, has_accepted_graph, new_cache, new_graph};
 use delegate_parts::{Builder, Outcome};
 use question_lists::{ContextOf, Listed, ListsContext};
+use search_graph::graph::SearchGraph;
 use search_parts::context::{Cx, Delegate, Verdict};
 use search_parts::global_cache::GlobalCache;
 use search_parts::path::PathKind;
@@ -34,7 +35,7 @@ where
     X: Cx<Input = Pair, Result = Outcome>,
     D: Delegate<Cx = X, ProofTreeBuilder = Builder>,
 {
-    let mut cache = new_cache::<X, D>(alloc, cx);
+    let mut cache = GlobalCache::<D>::new(alloc, cx);
     for (left, right, is_below) in asked {
         let pair = Pair {
             left: *left,
@@ -58,9 +59,9 @@ where
     X: Cx<Input = Pair, Result = Outcome>,
     D: Delegate<Cx = X, ProofTreeBuilder = Builder>,
 {
-    let mut graph = new_graph::<X, D>(alloc, 1000);
+    let mut graph = SearchGraph::<D>::new(alloc, 1000);
     let mut builder = Builder::new(true);
-    let answer = evaluate::<X, D>(&mut graph, cache, pair, PathKind::Coinductive, &mut builder)?;
+    let answer = graph.evaluate_goal(cache, pair, PathKind::Coinductive, &mut builder)?;
     let verdict = answer.result.verdict();
     let root = answer.node.ok_or("no node of a definite answer")?;
     if !has_accepted_graph::<X, D>(alloc, cache, pair, verdict, root, &mut builder)? {

@@ -1,9 +1,10 @@
 //! Towers of types, whose pairs are asked twice on each storey: what the provisional cache saves.
 
-use bare_calls::{evaluate, new_cache, new_graph};
 use delegate_parts::{Builder, Outcome};
 use question_lists::{ContextOf, Listed, ListsContext, ListsDelegate};
+use search_graph::graph::SearchGraph;
 use search_parts::context::{Cx, Delegate, Verdict};
+use search_parts::global_cache::GlobalCache;
 use search_parts::path::PathKind;
 use std::alloc::Global;
 use std::io::Write;
@@ -115,16 +116,10 @@ where
     X: Cx<Input = Pair, Result = Outcome>,
     D: Delegate<Cx = X, ProofTreeBuilder = Builder>,
 {
-    let mut cache = new_cache::<X, D>(alloc, cx);
-    let mut graph = new_graph::<X, D>(alloc, 1000);
+    let mut cache = GlobalCache::<D>::new(alloc, cx);
+    let mut graph = SearchGraph::<D>::new(alloc, 1000);
     let mut builder = Builder::new(true);
-    let answer = evaluate::<X, D>(
-        &mut graph,
-        &mut cache,
-        pair,
-        PathKind::Coinductive,
-        &mut builder,
-    )?;
+    let answer = graph.evaluate_goal(&mut cache, pair, PathKind::Coinductive, &mut builder)?;
     if answer.result.verdict() != Verdict::Yes {
         return Err("another answer than yes")?;
     }

@@ -5,7 +5,8 @@ use Rattle.rule_tables.specs.contracts.rules.GoalPartialEq.TheImpl.{eq-value}
 use Rattle.line_texts.proofs.Questions.{all_told, first_told, line_waits, none_begun, none_waits, told_on}
 use Rattle.line_texts.proofs.Written.{copied_or, on_err, whole_begins}
 use Rattle.table_runs.specs.Answers.{AreInTurn, LeaveCache}
-use Rattle.table_runs.specs.Told.{is_fine, line_of, line_told}
+use Rattle.answer_lines.specs.Goals.{line_told}
+use Rattle.table_runs.specs.Told.{is_fine, line_of}
 use Rattle.table_runs.proofs.Answered.{InTurn-more}
 use Rattle.table_runs.proofs.program.questions.answer_questions.Goals as goal
 

@@ -1,7 +1,7 @@
 use Rattle.std.proofs.Common.{◌++◌, ◌≤◌, ℕ, ap, subst, ◌∙◌}
 use Rattle.std.specs.Prelude.{IfOk}
 use Rattle.trees.specs.Below.{IsPlainTo, IsPlainValue, name_or_none}
-use Rattle.trees.specs.Shown.{answer_words}
+use Rattle.answer_lines.specs.Trees.{answer_words}
 use Rattle.trees.proofs.Right.{right}
 use Rattle.trees.proofs.program.shown.show_with.Goals as goal
 

@@ -1,6 +1,5 @@
-//! The calls of a search without what they promise, for tests. The promises of a search are long, and a test needs none of
-//! them: it looks at what came of a call. So these hand no promise on, and the tests above are proved without any.
-#![tactic(auto)]
+//! The calls of a search without what they promise. The promises of a search are long, and a test needs none of them: it looks
+//! at what came of a call. So these hand no promise on, and what calls them is proved without any.
 
 use graph_check::check_graph;
 use search_graph::graph::SearchGraph;

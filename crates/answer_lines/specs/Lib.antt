@@ -1,0 +1,4 @@
+pub mod Faults
+pub mod Goals
+pub mod Types
+pub mod Trees
