@@ -6,7 +6,7 @@ use Rattle.search_context.specs.declared.context.Answer.{Answer}
 use Rattle.search_rules.specs.Calls.{Call, CallMeetsNone}
 use Rattle.search_rules.specs.Claims.{IsRemembered}
 use Rattle.search_rules.specs.Evaluating.{IsWaiting, HasAsked, CallGoesOn, HasEnded, HasStopped, Leads, KeepsStore, KeepsAnswers}
-use Rattle.search_rules.specs.Fates.{fates_of, IsNewestToStore}
+use Rattle.search_rules.specs.Fates.{fates_of, IsNewestToStore, MeetsNewest}
 use Rattle.search_rules.specs.Free.{AreFree}
 use Rattle.search_rules.specs.Justified.{AreJustified, NewestAsks, IsFit}
 use Rattle.search_rules.specs.Provisional.{AreReady}
@@ -95,17 +95,19 @@ module _ {D C V P F I R A T : Type 0} (G : DelegateOf D C V P F I R A T) (X : Cx
     pub leads : Leads G X cx call ahead old next e.goals starts e.limits_met
     pub answers : KeepsAnswers G X cx same call e.limits_met cache.results e.provisional
     pub remembered : IfFinished next (λ answer. IsNewestToStore (fates_of old) → IsRememberedWhere G X cx same call cache e.limits_met answer)
+    pub compared : IfFinished next (λ answer. MeetsNewest (fates_of old) answer.result)
 
   -- a fault ended the call
   pub record StopsWith (call : Call I) (fault : Fault I R) (cache : Cache C I R A T) (e : Evaluation D C V P F I R A T) (starts : ℕ) : Type 0 where
     pub stopped : HasStopped G X cx call fault starts e.limits_met
     pub store : KeepsStore G X cx same call e.limits_met cache.results
 
-  -- an answer ended the call, and is stored where this holds
-  pub record EndsWith (is_stored : Type 0) (call : Call I) (answer : Answer R) (cache : Cache C I R A T) (e : Evaluation D C V P F I R A T) (starts : ℕ) : Type 0 where
+  -- an answer ended the call, is stored where this holds, and its result is as this says
+  pub record EndsWith (is_stored : Type 0) (is_expected : R → Type 0) (call : Call I) (answer : Answer R) (cache : Cache C I R A T) (e : Evaluation D C V P F I R A T) (starts : ℕ) : Type 0 where
     pub ended : HasEnded G X cx call answer.result starts e.limits_met
     pub store : KeepsStore G X cx same call e.limits_met cache.results
     pub remembered : is_stored → IsRememberedWhere G X cx same call cache e.limits_met answer
+    pub compared : is_expected answer.result
 
   -- a move after a request leads on, whatever call it is made in
   pub record Moves (request : Request I R) (old : Cache C I R A T) (before : Evaluation D C V P F I R A T) (from : ℕ) (result : Result (Next R) (Fault I R)) (new : Cache C I R A T) (after : Evaluation D C V P F I R A T) (to : ℕ) : Type 0 where

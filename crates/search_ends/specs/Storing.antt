@@ -56,9 +56,10 @@ module _ {D C V P F I R A T : Type 0} (G : DelegateOf D C V P F I R A T) (X : Cx
     pub stores : StoresNothing same old new after fault
     pub differs : IfDiffers fault (λ found. found ≡ came_to)
 
-  -- The answer, which was asked over the step, is stored as it is, with the goal's token, if it rests on no goal and that is its fate; one that rests on goals is a
-  -- provisional entry of its goal, if the delegate lets such entries be used.
+  -- The answer, which was asked over the step, is stored as it is, with the goal's token, if it rests on no goal and that is its fate; if it is to be compared
+  -- instead, it is the result that is stored. One that rests on goals is a provisional entry of its goal, if the delegate lets such entries be used.
   pub record Stores (same : I → I → Bool) (step : PathKind) (goal : I) (answer : EvaluationResult C I R A T) (fate : Fate R) (old new : Evaluation D C V P F I R A T) (cache : Cache C I R A T) : Type 0 where
     pub stored : fate ≡ becomes.Stored → answer.heads ≡ [] → IsStored same (X.token cache.cx) cache.results goal answer
+    pub compared : (stored : R) → fate ≡ becomes.Compared stored → answer.heads ≡ [] → answer.result ≡ stored
     pub entry : (other : I) → entries_at same new.provisional other
         ≡ entries_at same old.provisional other ++ (if G.ENABLE_PROVISIONAL_CACHE && same goal other then entries_for (reverse (map (λ s. s.0) old.goals)) step answer else [])

@@ -61,7 +61,7 @@ pub use Rattle.search_rules.specs.Claims.{Decides, IsCaused, IsMemoryOrOrder, Is
 pub use Rattle.search_rules.specs.Decided.{IsDecided}
 pub use Rattle.search_rules.specs.Evaluating.{Begins, CallGoesOn, HasAsked, HasEnded, HasStopped, IsOnly, IsWaiting}
 pub use Rattle.search_rules.specs.Evaluating.{KeepsAnswers, Leads, seen, work_left}
-pub use Rattle.search_rules.specs.Fates.{ChangesNewest, Fated, fates_of, HasOldest, HaveExpected, IsFated, IsNewestToStore, MovesFates, NoneStored}
+pub use Rattle.search_rules.specs.Fates.{ChangesNewest, Fated, fates_of, HasOldest, HaveExpected, IsFated, IsNewestToStore, MeetsNewest, MovesFates, NoneStored}
 pub use Rattle.search_rules.specs.Free.{AreFree}
 pub use Rattle.search_rules.specs.Justified.{AreJustified, IsFit, NewestAsks, OpenRun}
 pub use Rattle.search_rules.specs.Moves.{Pushes}

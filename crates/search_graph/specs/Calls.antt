@@ -1,6 +1,6 @@
 -- What a move, and the whole of an evaluation, comes to in whatever call it is made.
-use Rattle.std.specs.Prelude.{◌≡◌, ◌≢◌, ℕ, Bool, false, List, None, Result, IfOk, IfErr}
-use Rattle.search_graph.specs.Below.{Awaits, Begins, Cache, CacheNode, Call, CxOf, DelegateOf, EndsWith, Fated, Fault, fates_of, HasGraph, IsCaused, KeepsFinished, KeepsNodes, KeepsResults, LeadsTo, Memory, MovesFates, Next, Place, Received, StayFrom, OpenGoal, Store, stored_at, StopsWith, verdicts, work_left}
+use Rattle.std.specs.Prelude.{◌≡◌, ◌≢◌, ℕ, Bool, true, false, List, None, Option, Result, IfOk, IfErr, IfSome}
+use Rattle.search_graph.specs.Below.{Awaits, Begins, Cache, CacheNode, Call, CxOf, DelegateOf, EndsWith, Fated, Fault, fates_of, HasGraph, Hit, IsCaused, KeepsFinished, KeepsNodes, KeepsResults, LeadsTo, Memory, MovesFates, Next, Place, Received, StayFrom, OpenGoal, Store, stored_at, StopsWith, verdicts, work_left}
 use Rattle.run_records.specs.declared.runs.Fate.{Fate}
 use Rattle.run_records.specs.declared.runs.Fate.TheVariants as becomes
 use Rattle.search_context.specs.declared.context.Answer.{Answer}
@@ -18,6 +18,14 @@ pub record KeepsAll {C I R A T : Type 0} (same : I → I → Bool) (old new : Ca
 pub record Spares {I S R : Type 0} (same : I → I → Bool) (noop : Bool) (fate : Fate R) (goal : I) (old new : Store I S) : Type 0 where
   pub recorded : noop ≡ false → new ≡ old
   pub spared : fate ≡ becomes.NotStored → (place : Place) → stored_at same new goal place ≡ stored_at same old goal place
+
+-- a result is the stored one that it is to be compared with, if that is its fate
+abbrev pub IsOfFate : {R : Type 0} → Fate R → R → Type 0
+IsOfFate fate r = (stored : _) → fate ≡ becomes.Compared stored → r ≡ stored
+
+-- and so it is where the builder is a no-op, the goal is in a scope, and such a result is stored
+abbrev pub IsOfStored : {I R T : Type 0} → (noop in_scope : Bool) → Option (Hit I R T) → R → Type 0
+IsOfStored noop in_scope found r = noop ≡ true → in_scope ≡ true → IfSome found (λ hit. r ≡ hit.result)
 
 -- What a move does with the goals under evaluation: their runs' nodes are no older than they were, and their results' fates stay as they
 -- were, but for a goal that is pushed or popped.
@@ -40,9 +48,9 @@ module _ {D C V P F I R A T : Type 0} (G : DelegateOf D C V P F I R A T) (X : Cx
         → IfOk result (λ next. LeadsTo G X same cx call (work_left G X cx before.goals) before.goals next new after to)
     pub stops : (call : Call I) → Awaits G X same cx call received old before from → IfErr result (λ fault. StopsWith G X same cx call fault new after to)
 
-  -- where the call began, an answer ended it, which is stored where this holds, or a fault stopped it
-  pub record Evaluates (is_stored : Type 0) (goal : I) (old : Cache C I R A T) (before : Evaluation D C V P F I R A T) (from : ℕ) (result : Result (Answer R) (Fault I R)) (new : Cache C I R A T) (after : Evaluation D C V P F I R A T) (to : ℕ) : Type 0 where
+  -- where the call began, an answer ended it, which is stored where this holds and whose result is as this says, or a fault stopped it
+  pub record Evaluates (is_stored : Type 0) (is_expected : R → Type 0) (goal : I) (old : Cache C I R A T) (before : Evaluation D C V P F I R A T) (from : ℕ) (result : Result (Answer R) (Fault I R)) (new : Cache C I R A T) (after : Evaluation D C V P F I R A T) (to : ℕ) : Type 0 where
     pub ended : (call : Call I) → Begins G X cx same call goal before.root_depth.0 from before.limits_met old.results
-        → IfOk result (λ answer. EndsWith G X same cx is_stored call answer new after to)
+        → IfOk result (λ answer. EndsWith G X same cx is_stored is_expected call answer new after to)
     pub stopped : (call : Call I) → Begins G X cx same call goal before.root_depth.0 from before.limits_met old.results
         → IfErr result (λ fault. StopsWith G X same cx call fault new after to)

@@ -182,8 +182,15 @@ impl<D: Delegate> SearchGraph<D> {
             × (D.starts inspect.new ≡ D.starts inspect.old)
             × (self.new ≡ self.old) × (cache.new ≡ cache.old)) }
 
+        // A goal whose stored result the delegate has validated is worked out again, and an answer is that result.
+        ensures validated { D.noop inspect.old ≡ true → D.scoped cache.old.cx input ≡ true →
+            IfOk result (λ answer. IfSome (first_accepted (λ _. true)
+            (usable D.Cx.Input.eq cache.old.results input self.old.root_depth)) (λ hit.
+            answer.result ≡ hit.result)) }
+
         // Where starts are counted, no result was stored that met overflow and no limit is met, the answer is stored, so
-        // the cache answers the same call from then on, unless the builder records or the delegate has the result validated.
+        // the cache, as it is left, answers the same call, unless the builder records or the delegate has the result
+        // validated.
         ensures remembered { D.noop inspect.old ≡ true → D.scoped cache.old.cx input ≡ false →
             D.counts ≡ true → HaveNoOverflow D.Cx.Input.eq cache.old.results →
             self.old.limits_met ≡ false → self.new.limits_met ≡ false →

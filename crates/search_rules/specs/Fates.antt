@@ -55,6 +55,11 @@ abbrev pub IsNewestToStore : {I R : Type 0} → List (Fated I R) → Type 0
 IsNewestToStore [] = Unit {0}
 IsNewestToStore (s ∷ below) = s.fate ≡ becomes.Stored
 
+-- a result is the one that the newest goal's is to be compared with, if that is its fate
+abbrev pub MeetsNewest : {I R : Type 0} → List (Fated I R) → R → Type 0
+MeetsNewest [] r = Unit {0}
+MeetsNewest (s ∷ below) r = (stored : _) → s.fate ≡ becomes.Compared stored → r ≡ stored
+
 -- the result is stored of the goal, which is in a scope
 pub record IsExpected {X I R A T : Type 0} (scopes : I → Bool) (same : I → I → Bool) (results : Store I (StoredResult X I R A T)) (goal : I) (r : R) : Type 0 where
   pub in_scope : scopes goal ≡ true

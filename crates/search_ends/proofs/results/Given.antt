@@ -33,5 +33,6 @@ module _ {D C V P F I R A T : Type 0} (G : DelegateOf D C V P F I R A T) (X : Cx
         stored = λ is none.
             let whole = left.whole none in
             subst (IsStored same (X.token cache.cx) cache.results goal) whole (stores.stored is (heads_given answer given left ∙ none));
+        compared = (subst (λ (a : EvaluationResult C I R A T). Stores G X same step goal a fate old new cache) left.others stores).compared;
         entry = (subst (λ (a : EvaluationResult C I R A T). Stores G X same step goal a fate old new cache) left.others stores).entry;
       }

@@ -1,4 +1,5 @@
--- Why the answer to a call is stored where it met no overflow: the only goal rests on no other.
+-- Why the answer to a call is stored where it met no overflow, or is the stored result that it was to be compared with: the only goal
+-- rests on no other.
 use Rattle.std.proofs.Common.{◌≡◌, ℕ, nat_le, ◌<◌, ◌≤◌, if◌then◌else◌, Bool, true, false, List, [], ◌∷◌, ◌++◌, All, Some, refl, sym, ap, ◌∙◌, subst, arith}
 use Rattle.std.specs.Option.{IsSomeAnd}
 use Rattle.std.proofs.lemmas.Bool.{le-leb}
@@ -9,7 +10,9 @@ use Rattle.search_stack.specs.Hit.{Hit}
 use Rattle.global_cache.specs.declared.results.Place.TheVariants.{WithOverflow}
 use Rattle.goal_changes.specs.declared.Next.TheVariants.{Finished}
 use Rattle.run_records.specs.declared.runs.Fate.TheVariants as becomes
+use Rattle.search_rules.specs.Fates.{MeetsNewest}
 use Rattle.search_rules.specs.Moves.{NewestLeaves}
+use Rattle.search_ends.specs.Popped.{IsNewestCompared}
 use Rattle.search_ends.specs.Below.{Call, IsNewestToStore, CxOf, DelegateOf, Done, fates_of, first_accepted, final_answer, HasAsked, HaveTallies, IfFinished, CallMeetsNone, IsNewestStored, IsRemembered, Next, node_given, place_of, runs_of, Store, OpenGoal, stored_at, stored_from, StoredResult, Success}
 use Rattle.search_rules.proofs.entries.Ready.{heads_on_stack, on_stack_many}
 use Rattle.search_rules.proofs.moves.DoneRuns.{calm_of}
@@ -31,10 +34,22 @@ module _ {X I R A T : Type 0} (depth : ℕ) (s : StoredResult X I R A T) where
       subst (λ o. IsSomeAnd (first_accepted (λ _. true) (successes depth o ++ overflows depth (stored_at same results goal (WithOverflow depth)))) (λ hit. (hit.result ≡ s.result.result) × (hit.node ≡ s.node))) (sym at)
       (used_at (nat_le s.required_depth depth) (le-leb s.required_depth depth within) (overflows depth (stored_at same results goal (WithOverflow depth))))
 
+module _ {X F I R A T : Type 0} where
+  -- the only goal rests on none
+  only_rests_on_none : (s : OpenGoal X F I R A T) → HaveTallies (runs_of (s ∷ [])) → s.0.state.heads ≡ []
+  only_rests_on_none s tallies = none_below s.0.state.heads (subst (λ n. All (λ head. head.0.0 < n) s.0.state.heads) (on_stack_many {X = X} {F = F} {I = I} {R = R} {A = A} {T = T} []) (heads_on_stack s [] tallies))
+
+  -- the answer to a call is the result that it was to be compared with, if there is one
+  pub meets_compared : (old new : List (OpenGoal X F I R A T)) (r : R) (next : Next R) → HaveTallies (runs_of old) → NewestLeaves r old next new → IsNewestCompared old r → IfFinished next (λ answer. MeetsNewest (fates_of old) answer.result)
+  meets_compared [] new r next tallies l compared = absurd l
+  meets_compared (s ∷ []) new r next tallies l compared =
+      subst (λ n. IfFinished n (λ answer. MeetsNewest (fates_of (s ∷ [])) answer.result)) (sym l.1) (λ stored is. compared stored is (only_rests_on_none s tallies))
+  meets_compared (s ∷ p ∷ below) new r next tallies l compared = subst (λ n. IfFinished n (λ answer. MeetsNewest (fates_of (s ∷ p ∷ below)) answer.result)) (sym l.1) tt
+
 module _ {D C V P F I R A T : Type 0} (G : DelegateOf D C V P F I R A T) (X : CxOf C I R A T) (cx : C) (call : Call I) (same : I → I → Bool) (token : I → T) (ahead : ℕ) (done r : R) (starts : ℕ) (met : Bool) (results : Store I (StoredResult C I R A T)) where
   only_remembered : (s : OpenGoal C F I R A T) → HaveTallies (runs_of (s ∷ [])) → HasAsked G X cx call ahead (Done done) (s ∷ []) starts met → (next : Next R) → IsNewestStored same token (s ∷ []) r (node_given next) results → s.1.fate ≡ becomes.Stored → CallMeetsNone G X cx call met → IsRemembered same results call.top call.root (record { result = r; node = node_given next })
   only_remembered s tallies h next stored kept meets =
-      let no_heads = none_below s.0.state.heads (subst (λ n. All (λ head. head.0.0 < n) s.0.state.heads) (on_stack_many {X = C} {F = F} {I = I} {R = R} {A = A} {T = T} []) (heads_on_stack s [] tallies)) in
+      let no_heads = only_rests_on_none s tallies in
       let only = only_fits G X cx call ahead (Done done) s starts met h in
       let calm = calm_of G X cx call ahead done starts met s [] meets h in
       let success : place_of (final_answer s r (node_given next)) ≡ Success = ap (λ b. if b then WithOverflow s.0.state.required_depth else Success) calm in

@@ -41,6 +41,7 @@ module _ {D C V P F I R A T : Type 0} (G : DelegateOf D C V P F I R A T) (X : Cx
   pub stores_entry : G.ENABLE_PROVISIONAL_CACHE ≡ true → AppendsEntry same old.provisional new.provisional goal (entry_of (reverse (map (λ s. s.0) old.goals)) head.0 step answer) → Stores G X same step goal answer fate old new cache
   stores_entry enabled added = record {
     stored = λ stores none. absurd (has_heads answer.heads head rests none);
+    compared = λ stored is none. absurd (has_heads answer.heads head rests none);
     entry = λ other.
         subst (λ on. entries_at same new.provisional other ≡ entries_at same old.provisional other ++ (if on && same goal other then entries_for (reverse (map (λ s. s.0) old.goals)) step answer else [])) (sym enabled)
         (entry_added same by_value (reverse (map (λ s. s.0) old.goals)) step goal answer old.provisional new.provisional head rests added other);
@@ -50,6 +51,7 @@ module _ {D C V P F I R A T : Type 0} (G : DelegateOf D C V P F I R A T) (X : Cx
   pub stores_none : G.ENABLE_PROVISIONAL_CACHE ≡ false → new ≡ old → Stores G X same step goal answer fate old new cache
   stores_none disabled unchanged = record {
     stored = λ stores none. absurd (has_heads answer.heads head rests none);
+    compared = λ stored is none. absurd (has_heads answer.heads head rests none);
     entry = λ other.
         subst (λ on. entries_at same new.provisional other ≡ entries_at same old.provisional other ++ (if on && same goal other then entries_for (reverse (map (λ s. s.0) old.goals)) step answer else [])) (sym disabled)
         (ap (λ e. entries_at same e.provisional other) unchanged ∙ sym (append-nil (entries_at same old.provisional other)));
@@ -61,10 +63,11 @@ module _ {D C V P F I R A T : Type 0} (G : DelegateOf D C V P F I R A T) (X : Cx
   no_entry stack none true is = is
   no_entry stack none false is = refl
 
-  pub stores_compared : {U E : Type 0} (result : Result U E) (after : Evaluation D C V P F I R A T) → after.provisional ≡ evaluation.provisional → (stored : R) → fate ≡ becomes.Compared stored → highest answer.heads ≡ None → OnOk result (Stores G X same step goal answer fate evaluation after cache)
-  stores_compared (Err e) after entries stored is none = tt
-  stores_compared (Ok u) after entries stored is none = record {
+  pub stores_compared : {U E : Type 0} (result : Result U E) (after : Evaluation D C V P F I R A T) → after.provisional ≡ evaluation.provisional → (stored : R) → fate ≡ becomes.Compared stored → highest answer.heads ≡ None → OnOk result (answer.result ≡ stored) → OnOk result (Stores G X same step goal answer fate evaluation after cache)
+  stores_compared (Err e) after entries stored is none equal = tt
+  stores_compared (Ok u) after entries stored is none equal = record {
     stored = λ stores rests. let clash : becomes.Compared stored ≡ becomes.Stored = sym is ∙ stores in absurd cc;
+    compared = λ other also rests. let both : becomes.Compared stored ≡ becomes.Compared other = sym is ∙ also in let one : stored ≡ other = cc in equal ∙ one;
     entry = λ other.
         let stack = reverse (map (λ s. s.0) evaluation.goals) in
         ap (λ lists. entries_at same lists other) entries
@@ -72,10 +75,11 @@ module _ {D C V P F I R A T : Type 0} (G : DelegateOf D C V P F I R A T) (X : Cx
   }
 
   -- it is stored, and has no entry, either
-  pub stores_result : {U E : Type 0} (result : Result U E) (after : Evaluation D C V P F I R A T) → after.provisional ≡ evaluation.provisional → highest answer.heads ≡ None → OnOk result (IsStored same (X.token cache.cx) cache.results goal answer) → OnOk result (Stores G X same step goal answer fate evaluation after cache)
-  stores_result (Err e) after entries none is = tt
-  stores_result (Ok u) after entries none is = record {
+  pub stores_result : {U E : Type 0} (result : Result U E) (after : Evaluation D C V P F I R A T) → after.provisional ≡ evaluation.provisional → fate ≡ becomes.Stored → highest answer.heads ≡ None → OnOk result (IsStored same (X.token cache.cx) cache.results goal answer) → OnOk result (Stores G X same step goal answer fate evaluation after cache)
+  stores_result (Err e) after entries kept none is = tt
+  stores_result (Ok u) after entries kept none is = record {
     stored = λ stores rests. is;
+    compared = λ stored also rests. let clash : becomes.Stored ≡ becomes.Compared stored = sym kept ∙ also in absurd cc;
     entry = λ other.
         let stack = reverse (map (λ s. s.0) evaluation.goals) in
         ap (λ lists. entries_at same lists other) entries

@@ -13,13 +13,13 @@ use Rattle.search_rules.proofs.answers.Differing.{memory_or_order}
 use Rattle.search_rules.specs.Evaluating.{KeepsStore}
 use Rattle.search_rules.specs.Settled.{HasOneOfEach}
 
-module _ {D C V P F I R A T : Type 0} (G : DelegateOf D C V P F I R A T) (X : CxOf C I R A T) (same : I → I → Bool) (old new : Cache C I R A T) (input : I) (root : ℕ) (fits : root < 2 ^ 64) (starts now : ℕ) (is_stored : Type 0) (e : Evaluation D C V P F I R A T) where
+module _ {D C V P F I R A T : Type 0} (G : DelegateOf D C V P F I R A T) (X : CxOf C I R A T) (same : I → I → Bool) (old new : Cache C I R A T) (input : I) (root : ℕ) (fits : root < 2 ^ 64) (starts now : ℕ) (is_stored : Type 0) (is_expected : R → Type 0) (e : Evaluation D C V P F I R A T) where
   -- the goal was worked out, on a graph that had met no limit
   abbrev pub IsWorkedOut : Result (Answer R) (Fault I R) → Type 0
-  IsWorkedOut (Ok answer) = (call : Call I) → Begins G X old.cx same call input root starts false old.results → EndsWith G X same old.cx is_stored call answer new e now
+  IsWorkedOut (Ok answer) = (call : Call I) → Begins G X old.cx same call input root starts false old.results → EndsWith G X same old.cx is_stored is_expected call answer new e now
   IsWorkedOut (Err fault) = (call : Call I) → Begins G X old.cx same call input root starts false old.results → StopsWith G X same old.cx call fault new e now
 
-  pub worked_out : (r : Result (Answer R) (Fault I R)) → ((call : Call I) → Begins G X old.cx same call input root starts false old.results → IfOk r (λ answer. EndsWith G X same old.cx is_stored call answer new e now)) → ((call : Call I) → Begins G X old.cx same call input root starts false old.results → IfErr r (λ fault. StopsWith G X same old.cx call fault new e now)) → IsWorkedOut r
+  pub worked_out : (r : Result (Answer R) (Fault I R)) → ((call : Call I) → Begins G X old.cx same call input root starts false old.results → IfOk r (λ answer. EndsWith G X same old.cx is_stored is_expected call answer new e now)) → ((call : Call I) → Begins G X old.cx same call input root starts false old.results → IfErr r (λ fault. StopsWith G X same old.cx call fault new e now)) → IsWorkedOut r
   worked_out (Ok answer) ended stopped = ended
   worked_out (Err fault) ended stopped = stopped
 

@@ -3,7 +3,7 @@ use Rattle.std.proofs.Common.{◌≡◌, Bool, false, List, ◌∷◌, [], refl,
 use Rattle.global_cache.specs.Store.{KeepsResults}
 use Rattle.run_records.specs.declared.runs.Fate.{Fate}
 use Rattle.run_records.specs.declared.runs.Fate.TheVariants as becomes
-use Rattle.search_graph.specs.Below.{ChangesNewest, fates_of, HasOldest, HaveExpected, IsFated, IsNewestToStore, MovesFates, NoneStored, Place, Reply, Request, Store, OpenGoal, stored_at, StoredResult}
+use Rattle.search_graph.specs.Below.{ChangesNewest, fates_of, HasOldest, HaveExpected, IsFated, IsNewestToStore, MeetsNewest, MovesFates, NoneStored, Place, Reply, Request, Store, OpenGoal, stored_at, StoredResult}
 use Rattle.search_graph.specs.Fates.{KeepsFates}
 use Rattle.search_rules.proofs.moves.Fates.{expected_kept, expected_moves, none_stored_moves, oldest_moves, spared_stays, unstored_stay}
 
@@ -26,6 +26,10 @@ module _ {C F I R A T : Type 0} (scopes : I → Bool) (scripts : I → List (Rep
   -- the newest of the goals is the first one, if there is no other
   pub only_stores : (goals : List (OpenGoal C F I R A T)) (s : OpenGoal C F I R A T) → goals ≡ s ∷ [] → fate ≡ becomes.Stored → HasOldest same input fate (fates_of goals) → IsNewestToStore (fates_of goals)
   only_stores goals s is stores h = subst (λ l. IsNewestToStore (fates_of l)) (sym is) ((subst (λ l. HasOldest same input fate (fates_of l)) is h).1 ∙ stores)
+
+  -- what it is to be compared with is what the first one is to be, then
+  pub only_meets : (goals : List (OpenGoal C F I R A T)) (s : OpenGoal C F I R A T) → goals ≡ s ∷ [] → (r stored : R) → fate ≡ becomes.Compared stored → HasOldest same input fate (fates_of goals) → MeetsNewest (fates_of goals) r → r ≡ stored
+  only_meets goals s is r stored compared h meets = (subst (λ l. MeetsNewest (fates_of l) r) is meets) stored ((subst (λ l. HasOldest same input fate (fates_of l)) is h).1 ∙ compared)
 
   module _ (goals : List (OpenGoal C F I R A T)) (mid new : Store I (StoredResult C I R A T)) (h : KeepsFates scopes scripts same noop input fate old goals mid) (changes : ChangesNewest same (fates_of goals) mid new) where
     -- no result changed that isn't to be stored,

@@ -155,7 +155,7 @@ module _ {D C V P F I R A T : Type 0} (G : DelegateOf D C V P F I R A T) (X : Cx
     turn_leads call ahead goals starts h =
         subst (λ a. LeadsTo G X same cx call ahead goals (Step given) new a starts) (sym is_after)
         (subst (λ c. LeadsTo G X same cx call ahead goals (Step given) c (record e { drafts = after.drafts }) starts) (sym goes.rest)
-        (record { leads = h.leads; answers = h.answers; remembered = tt }))
+        (record { leads = h.leads; answers = h.answers; remembered = tt; compared = tt }))
 
     pub turn_settles : (call : Call I) → Settles G X same cx call given mid e → Settles G X same cx call given new after
     turn_settles call h =
@@ -173,7 +173,7 @@ module _ {D C V P F I R A T : Type 0} (G : DelegateOf D C V P F I R A T) (X : Cx
     pub end_leads : LetsGoAtEnd same e answer.node mid new → (call : Call I) (ahead : ℕ) (goals : List (OpenGoal C F I R A T)) (starts : ℕ) → LeadsTo G X same cx call ahead goals (Finished answer) mid e starts → LeadsTo G X same cx call ahead goals (Finished answer) new e starts
     end_leads goes call ahead goals starts h =
         subst (λ c. LeadsTo G X same cx call ahead goals (Finished answer) c e starts) (sym goes.rest)
-        (record { leads = h.leads; answers = h.answers; remembered = h.remembered })
+        (record { leads = h.leads; answers = h.answers; remembered = h.remembered; compared = h.compared })
 
     pub end_right : LetsGoAtEnd same e answer.node mid new → (goals : List (OpenGoal C F I R A T)) → IsRightNext G X same cx goals (Finished answer) mid e → IsRightTurn G X same cx goals (Finished answer) new e
     end_right goes [] h = h.justified

@@ -2,7 +2,7 @@
 ghost use Rattle.std.specs.Prelude.{◌≡◌, ◌≢◌, true, false, length, IfOk, IfErr, IfSome, None, OnOk, Ok};
 ghost use Rattle.run_records.specs.declared.runs.Fate.TheVariants.{Stored};
 ghost use Rattle.search_graph.specs.Below.{ChangesCache, IsCaused, IsFated, Memory, first_accepted, usable, KeepsBuilder, KeepsCache, IsRightNext, HasReply, HaveExpected, fates_of};
-ghost use Rattle.search_graph.specs.Calls.{Advances, Evaluates, IsGrounded, MovesGoals, Spares};
+ghost use Rattle.search_graph.specs.Calls.{Advances, Evaluates, IsGrounded, IsOfFate, IsOfStored, MovesGoals, Spares};
 ghost use Rattle.search_graph.specs.Settled.{EndsSettled, StaysSettled};
 ghost use Rattle.search_graph.specs.Turns.{HasDrafts, IsAtOutset, IsRightTurn, KeepsDrafts, TurnsCache};
 ghost use Rattle.search_state.specs.Drafts.{KeepsNoted, LeavesReached};
@@ -32,7 +32,9 @@ pub(crate) fn evaluate<D: Delegate>(
 ) -> Result<Answer<<D::Cx as Cx>::Result>, Fault<<D::Cx as Cx>::Input, <D::Cx as Cx>::Result>>
     requires outset { IsAtOutset cache.old evaluation.old }
     ensures evaluates { Evaluates D.Delegate D.Cx.Cx D.Cx.Input.eq cache.old.cx
-        ((D.noop inspect.old ≡ true) × (D.scoped cache.old.cx input ≡ false)) input
+        ((D.noop inspect.old ≡ true) × (D.scoped cache.old.cx input ≡ false))
+        (IsOfStored (D.noop inspect.old) (D.scoped cache.old.cx input) (first_accepted (λ _. true)
+        (usable D.Cx.Input.eq cache.old.results input evaluation.old.root_depth.0))) input
         cache.old evaluation.old (D.starts inspect.old) result
         cache.new evaluation.new (D.starts inspect.new) }
     ensures settled { EndsSettled D.Delegate D.Cx.Cx D.Cx.Input.eq cache.old.cx
@@ -88,7 +90,7 @@ pub(crate) fn work_out<D: Delegate>(
         cache.old.results (D.noop inspect.old)
         (record { goal = input; depth = evaluation.old.root_depth.0; fate = fate }) }
     ensures evaluates { Evaluates D.Delegate D.Cx.Cx D.Cx.Input.eq cache.old.cx
-        (fate ≡ Stored) input
+        (fate ≡ Stored) (IsOfFate fate) input
         cache.old evaluation.old (D.starts inspect.old) result
         cache.new evaluation.new (D.starts inspect.new) }
     ensures settled { fate ≡ Stored → (IsLone D.Cx.Input.eq cache.old.results input → ⊥) →

@@ -128,12 +128,14 @@ first_over_none : (X A : Type 0) {I R T : Type 0} (same : I → I → Bool) (ste
 first_over_none X A {R = R} {T = T} same step [] = refl
 first_over_none X A {R = R} {T = T} same step (hit ∷ hits) = ap (λ b. cond b (Some hit) (first_accepted (is_applicable {X = X} {R = R} {A = A} {T = T} same (record { stack = []; entries = []; step = step })) hits)) (no_entry_met hit.nested_goals)
 
-pub stored_over_none : {X F I R A T : Type 0} (same : I → I → Bool) (goals : List (StackEntry X I R A T × F)) → goals ≡ [] → (found : Option (CacheData X I R A T)) (stack : List (StackEntry X I R A T)) → stack ≡ reverse (map (λ s. s.0) goals) → (entries : Lists I (ProvisionalCacheEntry X I R A T)) → entries ≡ [] → (step : PathKind) (hits : List (Hit I R T)) → option_map hit_of found ≡ first_accepted (is_applicable same (record { stack = stack; entries = entries; step = step })) hits → option_map hit_of found ≡ first_accepted (λ nested. true) hits
-stored_over_none {X = X} {A = A} same goals none found stack is entries empty step hits h =
-    h
-    ∙ ap (λ (l : List (StackEntry _ _ _ _ _)). first_accepted (is_applicable same (record { stack = l; entries = entries; step = step })) hits) (is ∙ ap (λ l. reverse (map (λ s. s.0) l)) none)
+pub accepted_over_none : {X F I R A T : Type 0} (same : I → I → Bool) (goals : List (StackEntry X I R A T × F)) → goals ≡ [] → (stack : List (StackEntry X I R A T)) → stack ≡ reverse (map (λ s. s.0) goals) → (entries : Lists I (ProvisionalCacheEntry X I R A T)) → entries ≡ [] → (step : PathKind) (hits : List (Hit I R T)) → first_accepted (is_applicable same (record { stack = stack; entries = entries; step = step })) hits ≡ first_accepted (λ nested. true) hits
+accepted_over_none {X = X} {A = A} same goals none stack is entries empty step hits =
+    ap (λ (l : List (StackEntry _ _ _ _ _)). first_accepted (is_applicable same (record { stack = l; entries = entries; step = step })) hits) (is ∙ ap (λ l. reverse (map (λ s. s.0) l)) none)
     ∙ ap (λ (l : Lists _ (ProvisionalCacheEntry _ _ _ _ _)). first_accepted (is_applicable same (record { stack = []; entries = l; step = step })) hits) empty
     ∙ first_over_none X A same step hits
+
+pub stored_over_none : {X F I R A T : Type 0} (same : I → I → Bool) (goals : List (StackEntry X I R A T × F)) → goals ≡ [] → (found : Option (CacheData X I R A T)) (stack : List (StackEntry X I R A T)) → stack ≡ reverse (map (λ s. s.0) goals) → (entries : Lists I (ProvisionalCacheEntry X I R A T)) → entries ≡ [] → (step : PathKind) (hits : List (Hit I R T)) → option_map hit_of found ≡ first_accepted (is_applicable same (record { stack = stack; entries = entries; step = step })) hits → option_map hit_of found ≡ first_accepted (λ nested. true) hits
+stored_over_none same goals none found stack is entries empty step hits h = h ∙ accepted_over_none same goals none stack is entries empty step hits
 
 -- where a look-up gives nothing, nothing that may be used is stored
 pub nothing_stored : {X I R A T : Type 0} (found : Option (CacheData X I R A T)) (first : Option (Hit I R T)) (P : Hit I R T → Type 0) → ((stored : CacheData X I R A T) → found ≡ Some stored → ⊥) → option_map hit_of found ≡ first → IfSome first P

@@ -1,6 +1,7 @@
 use Rattle.std.proofs.Common.{List, Some, [], ◌∷◌, length, map, reverse, All, ◌≡◌, ◌<◌, ◌≤◌, refl, sym, ap, subst, ◌∙◌}
 use Rattle.std.specs.Option.{IfSome}
 use Rattle.search_ends.specs.Below.{ChangesNewest, fates_of, HaveExpected, IfCompared, IsExpected, IsPlainValue, highest, StackEntry, ProvisionalCacheEntry, entries_at, EvaluationResult, HasGraph, place_of, KeepsResults, IsPlainAt, KeepsFinished, IsPlainTo, verdicts, AreJustified, HaveTallies, AreReady, HasReason, IsNewestUnranked, RebasesNewest, final_answer, AreFree, ComesTo, IsNewestPlainTo, IsNewestStored, IsStored, NewestComesTo, NewestIsPlain, StoresAnswer, StoresNewest, GivesAnswer, GivesNested, LeavesNested, runs_of, IsJustifiedNext, HasNewestNode, HasResultNode, KeepsBut, node_given}
+use Rattle.search_ends.specs.Popped.{IsNewestCompared}
 use Rattle.search_ends.specs.Words.{Fails, Pops}
 use Rattle.global_cache.proofs.Stores.{KeepsResults-same}
 use Rattle.search_ends.proofs.results.Given.{heads_given, puts_given, storable_given, stores_given}
@@ -204,6 +205,10 @@ returns-clause-popped g c =
           (subst (λ cx. c.pop-entry.result.run.fate ≡ becomes.Stored → c.pop-entry.result.entry.state.heads ≡ [] → IsStored g.D.Cx.Input.PartialEq.eq (g.D.Cx.Cx.token cx) c.store_answer.new.cache.results c.pop-entry.result.entry.input (final_answer (c.pop-entry.result.entry, c.pop-entry.result.run) c.args.outcome c.in_ok-node.node)) same_cx
           (subst (λ i. c.pop-entry.result.run.fate ≡ becomes.Stored → c.pop-entry.result.entry.state.heads ≡ [] → IsStored g.D.Cx.Input.PartialEq.eq (g.D.Cx.Cx.token c.store_answer.new.cache.cx) c.store_answer.new.cache.results i (final_answer (c.pop-entry.result.entry, c.pop-entry.result.run) c.args.outcome c.in_ok-node.node)) c.input-input.ensures
           (subst (λ (a : EvaluationResult _ _ _ _ _). c.pop-entry.result.run.fate ≡ becomes.Stored → a.heads ≡ [] → IsStored g.D.Cx.Input.PartialEq.eq (g.D.Cx.Cx.token c.store_answer.new.cache.cx) c.store_answer.new.cache.results c.input-input.result a) c.finalize-answer.ensures (stores_given g.D.Delegate g.D.Cx.Cx c.finalize-answer.result c.give_answer.new.answer c.give_answer.ensures.left g.D.Cx.Input.PartialEq.eq c.step_kind_from_parent-step.result c.input-input.result c.pop-entry.result.run.fate (record c.args.evaluation.now { goals = c.give_answer.new.goals; provisional = c.rebase_entries.new.provisional }) c.store_answer.new.evaluation c.store_answer.new.cache c.in_ok-store_answer.ensures.stores).stored))));
+      compared =
+          subst (λ l. IsNewestCompared l c.args.outcome) (sym c.pop-entry.ensures)
+          (subst (λ (a : EvaluationResult _ _ _ _ _). (stored : _) → c.pop-entry.result.run.fate ≡ becomes.Compared stored → a.heads ≡ [] → a.result ≡ stored) c.finalize-answer.ensures
+          (stores_given g.D.Delegate g.D.Cx.Cx c.finalize-answer.result c.give_answer.new.answer c.give_answer.ensures.left g.D.Cx.Input.PartialEq.eq c.step_kind_from_parent-step.result c.input-input.result c.pop-entry.result.run.fate (record c.args.evaluation.now { goals = c.give_answer.new.goals; provisional = c.rebase_entries.new.provisional }) c.store_answer.new.evaluation c.store_answer.new.cache c.in_ok-store_answer.ensures.stores).compared);
       puts =
           subst (λ l. StoresNewest g.D.Cx.Input.PartialEq.eq l c.args.outcome (node_given c.in_ok-next.next) c.args.cache.now.results c.store_answer.new.cache.results) (sym c.pop-entry.ensures)
           (subst (λ node. StoresAnswer g.D.Cx.Input.PartialEq.eq c.args.cache.now.results c.store_answer.new.cache.results c.pop-entry.result.entry.input (final_answer (c.pop-entry.result.entry, c.pop-entry.result.run) c.args.outcome node)) (sym node_is)

@@ -1,4 +1,4 @@
-use Rattle.search_ends.proofs.results.Remembering.{remembered}
+use Rattle.search_ends.proofs.results.Remembering.{meets_compared, remembered}
 use Rattle.search_ends.proofs.moves.Said.{done_keeps, end_leaves, limited_keeps_answers, rerun_keeps}
 use Rattle.std.proofs.Common.{rules, Err, Ok, Some, ◌≡◌, true, refl, sym, ap, ap₂, subst, ◌∙◌}
 use Rattle.search_ends.specs.Below.{Again, AtLimit, IsEndOfRun, IsFit, Memory, Overflow, runs_of, Step, verdict_of, verdicts, CallGoesOn, KeepsAnswers, KeepsStore, LeadsTo, StopsWith}
@@ -47,6 +47,7 @@ returns-in-Ok-clause-moves g c = record {
             (end_leaves (verdicts g.D.Cx.Cx) g.D.Cx.Result.PartialEq.eq g.D.Delegate.initial_kind g.D.Delegate.ambiguity g.met.D.Delegate.ambiguous_is_neither g.D.Delegate.FIXPOINT_STEP_LIMIT c.last_entry.result.now.state.provisional_result c.last_entry.result.now.state.usages c.last_run.result.now.finished_runs c.args.outcome c.end_of_run.result c.in-Ok.reason c.end_of_run.ensures.is_end c.in-Ok.is)
             _ g.met.D.Cx.Cx.same_input c.args.cache.now.results c.pop_goal.new.cache.results c.args.evaluation.now.goals c.args.evaluation.now.provisional c.pop_goal.new.evaluation.provisional c.pop_goal.ensures.stored p.rebased h.asked h.answers;
         remembered = remembered g.D.Delegate g.D.Cx.Cx c.args.cache.now.cx call g.D.Cx.Input.PartialEq.eq (g.D.Cx.Cx.token c.args.cache.now.cx) ahead c.args.outcome c.args.outcome _ _ c.pop_goal.new.cache.results _ (λ meets. meets) c.args.evaluation.now.goals c.pop_goal.new.evaluation.goals next c.requires.made.right.justified.tallies h.asked p.left p.stored;
+        compared = meets_compared c.args.evaluation.now.goals c.pop_goal.new.evaluation.goals c.args.outcome next c.requires.made.right.justified.tallies p.left p.compared;
       }));
   stops = λ call ahead h.
       stopped_by_both c.pop_goal.result _ _ _
@@ -97,6 +98,7 @@ returns-in-Err-AtLimit-clause-moves g c = record {
         leads = limited_leads g.D.Delegate g.D.Cx.Cx c.args.cache.now.cx call ahead c.args.outcome c.fixpoint_overflow_result-overflow.result next c.args.evaluation.now.goals c.pop_goal-in-Err-AtLimit.new.evaluation.goals _ _ (newest_limited c.args.evaluation.now.goals c.last_entry.result.now c.last_run.result.now c.last_entry.ensures c.last_run.ensures g.D.Delegate.FIXPOINT_STEP_LIMIT (limited g.D.Cx.Result.PartialEq.eq g.D.Delegate.initial_kind g.D.Delegate.ambiguity g.D.Delegate.FIXPOINT_STEP_LIMIT c.last_entry.result.now.state.provisional_result c.last_entry.result.now.state.usages c.last_run.result.now.finished_runs c.args.outcome c.end_of_run.result c.end_of_run.ensures.is_end (c.in-Err-AtLimit.is ∙ ap Err c.in-Err-AtLimit.field-0-is))) p.left h.asked;
         answers = limited_keeps_answers g.D.Delegate g.D.Cx.Cx c.args.cache.now.cx call g.D.Cx.Input.PartialEq.eq _ ahead c.args.outcome c.fixpoint_overflow_result-overflow.result _ _ _ _ g.met.D.Cx.Cx.same_input c.args.cache.now.results c.pop_goal-in-Err-AtLimit.new.cache.results c.args.evaluation.now.goals c.args.evaluation.now.provisional c.pop_goal-in-Err-AtLimit.new.evaluation.provisional c.pop_goal-in-Err-AtLimit.ensures.stored p.rebased h.asked h.answers;
         remembered = remembered g.D.Delegate g.D.Cx.Cx c.args.cache.now.cx call g.D.Cx.Input.PartialEq.eq (g.D.Cx.Cx.token c.args.cache.now.cx) ahead c.args.outcome c.fixpoint_overflow_result-overflow.result _ c.args.evaluation.now.limits_met c.pop_goal-in-Err-AtLimit.new.cache.results true (met_none_before g.D.Delegate g.D.Cx.Cx c.args.cache.now.cx call c.args.evaluation.now.limits_met) c.args.evaluation.now.goals c.pop_goal-in-Err-AtLimit.new.evaluation.goals next c.requires.made.right.justified.tallies h.asked p.left p.stored;
+        compared = meets_compared c.args.evaluation.now.goals c.pop_goal-in-Err-AtLimit.new.evaluation.goals c.fixpoint_overflow_result-overflow.result next c.requires.made.right.justified.tallies p.left p.compared;
       }));
   stops = λ call ahead h.
       stopped_each c.pop_goal-in-Err-AtLimit.result _
@@ -150,6 +152,7 @@ returns-in_ok-run_again-in-Err-Again-clause-moves g c = record {
             subst (λ results. KeepsAnswers g.D.Delegate g.D.Cx.Cx c.args.cache.now.cx g.D.Cx.Input.PartialEq.eq call c.args.evaluation.now.limits_met results c.run_again.new.evaluation.provisional) (sym (ap (λ cache. cache.results) c.run_again.ensures.cache))
             (rerun_keeps g.D.Delegate g.D.Cx.Cx c.args.cache.now.cx call g.D.Cx.Input.PartialEq.eq c.args.cache.now.results c.args.evaluation.now.limits_met _ c.args.evaluation.now.provisional c.run_again.new.evaluation.provisional c.in_ok-run_again-in-Err-Again.ensures.reran.cleared h.answers);
         remembered = tt;
+        compared = tt;
       });
   stops = λ call ahead h. tt;
 }

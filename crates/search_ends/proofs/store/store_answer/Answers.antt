@@ -30,7 +30,7 @@ returns-in-Compared-clause-puts g c = puts_nothing g.D.Cx.Input.PartialEq.eq c.a
 pub returns-in-Compared-clause-stores : goal.returns-in-Compared-clause-stores
 returns-in-Compared-clause-stores g c =
     stores_compared g.D.Delegate g.D.Cx.Cx g.D.Cx.Input.PartialEq.eq c.args.step c.args.input c.args.answer c.args.fate c.args.evaluation.now c.args.cache.now c.compare.result _ refl c.in-Compared.stored c.in-Compared.is
-    (ap highest (headless c.args.answer c.opt_highest_cycle_head_index.result c.opt_highest_cycle_head_index.ensures c.in_default.is))
+    (ap highest (headless c.args.answer c.opt_highest_cycle_head_index.result c.opt_highest_cycle_head_index.ensures c.in_default.is)) c.compare.ensures.same
 
 pub compare-requires-clause-no_heads : goal.compare-requires-clause-no_heads
 compare-requires-clause-no_heads g c = headless c.args.answer c.opt_highest_cycle_head_index.result c.opt_highest_cycle_head_index.ensures c.in_default.is
@@ -57,6 +57,6 @@ returns-clause-stores g c =
 
 pub returns-in-Stored-clause-stores : goal.returns-in-Stored-clause-stores
 returns-in-Stored-clause-stores g c =
-    stores_result g.D.Delegate g.D.Cx.Cx g.D.Cx.Input.PartialEq.eq c.args.step c.args.input c.args.answer c.args.fate c.args.evaluation.now c.store_for_good.new.cache c.store_for_good.result _ refl
+    stores_result g.D.Delegate g.D.Cx.Cx g.D.Cx.Input.PartialEq.eq c.args.step c.args.input c.args.answer c.args.fate c.args.evaluation.now c.store_for_good.new.cache c.store_for_good.result _ refl c.in-Stored.is
     (ap highest (headless c.args.answer c.opt_highest_cycle_head_index.result c.opt_highest_cycle_head_index.ensures c.in_default.is))
     (subst (λ cx. OnOk c.store_for_good.result (IsStored g.D.Cx.Input.PartialEq.eq (g.D.Cx.Cx.token cx) c.store_for_good.new.cache.results c.args.input c.args.answer)) (sym (ap (λ cache. cache.cx) c.store_for_good.ensures.cache.rest)) c.store_for_good.ensures.is_stored)

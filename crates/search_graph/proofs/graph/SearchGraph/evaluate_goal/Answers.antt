@@ -167,6 +167,12 @@ returns-clause-remembered g c =
     rw (← c.self.view_is)
     (λ is_noop unscoped counted none unmet still. ((c.in_ok-answer.ensures.evaluates.ended (call_of c.args.input c.self.inside.root_depth.0 (g.D.Delegate.starts c.args.inspect.now) c.self.inside.limits_met true false fits) (rw c.begin.ensures.begins (call_begins g.D.Delegate g.D.Cx.Cx c.args.cache.now.cx g.D.Cx.Input.PartialEq.eq c.args.input c.self.inside.root_depth.0 (g.D.Delegate.starts c.args.inspect.now) c.self.inside.limits_met fits c.args.cache.now.results true false (λ e. none) (λ e. absurd cc)))).remembered) (is_noop, unscoped) (inl ((counted, unmet, inl refl), still)))
 
+pub returns-clause-validated : goal.returns-clause-validated
+returns-clause-validated g c =
+    let fits = c.begin.ensures.fits in
+    rw (← c.self.view_is)
+    (λ is_noop scoped. rw c.begin.ensures.begins at ((c.in_ok-answer.ensures.evaluates.ended (call_of c.args.input c.self.inside.root_depth.0 (g.D.Delegate.starts c.args.inspect.now) c.self.inside.limits_met false false fits) (rw c.begin.ensures.begins (call_begins g.D.Delegate g.D.Cx.Cx c.args.cache.now.cx g.D.Cx.Input.PartialEq.eq c.args.input c.self.inside.root_depth.0 (g.D.Delegate.starts c.args.inspect.now) c.self.inside.limits_met fits c.args.cache.now.results false false (λ e. absurd cc) (λ e. absurd cc)))).compared is_noop scoped))
+
 pub returns-clause-kept_nodes : goal.returns-clause-kept_nodes
 returns-clause-kept_nodes g c =
     nodes_of_earlier _ c.args.cache.now.nodes c.evaluate-outcome.new.cache.nodes (ap (λ e. e.goals) c.begin.ensures.begins) c.evaluate-outcome.ensures.keeps.earlier

@@ -39,24 +39,24 @@ returns-clause-kept_nodes g c = nodes_of_earlier _ c.args.cache.now.nodes c.work
 -- ---- what a call promises beside it
 
 pub returns-clause-plain : goal.returns-clause-plain
-returns-clause-plain g c = worked_plain g.D.Delegate g.D.Cx.Cx g.D.Cx.Input.PartialEq.eq c.args.cache.now c.work_out-answer.new.cache c.args.input c.args.root_depth c.new-evaluation.ensures.fits (g.D.Delegate.starts c.args.inspect.now) (g.D.Delegate.starts c.work_out-answer.new.inspect) _ c.work_out-answer.new.evaluation c.work_out-answer.result
-    (worked_out g.D.Delegate g.D.Cx.Cx g.D.Cx.Input.PartialEq.eq c.args.cache.now c.work_out-answer.new.cache c.args.input c.args.root_depth c.new-evaluation.ensures.fits (g.D.Delegate.starts c.args.inspect.now) (g.D.Delegate.starts c.work_out-answer.new.inspect) _ c.work_out-answer.new.evaluation c.work_out-answer.result (rw c.new-evaluation.ensures.begins at c.work_out-answer.ensures.evaluates.ended) (rw c.new-evaluation.ensures.begins at c.work_out-answer.ensures.evaluates.stopped))
+returns-clause-plain g c = worked_plain g.D.Delegate g.D.Cx.Cx g.D.Cx.Input.PartialEq.eq c.args.cache.now c.work_out-answer.new.cache c.args.input c.args.root_depth c.new-evaluation.ensures.fits (g.D.Delegate.starts c.args.inspect.now) (g.D.Delegate.starts c.work_out-answer.new.inspect) _ _ c.work_out-answer.new.evaluation c.work_out-answer.result
+    (worked_out g.D.Delegate g.D.Cx.Cx g.D.Cx.Input.PartialEq.eq c.args.cache.now c.work_out-answer.new.cache c.args.input c.args.root_depth c.new-evaluation.ensures.fits (g.D.Delegate.starts c.args.inspect.now) (g.D.Delegate.starts c.work_out-answer.new.inspect) _ _ c.work_out-answer.new.evaluation c.work_out-answer.result (rw c.new-evaluation.ensures.begins at c.work_out-answer.ensures.evaluates.ended) (rw c.new-evaluation.ensures.begins at c.work_out-answer.ensures.evaluates.stopped))
 
 pub returns-clause-plain_faults : goal.returns-clause-plain_faults
-returns-clause-plain_faults g c = worked_plain_faults g.D.Delegate g.D.Cx.Cx g.D.Cx.Input.PartialEq.eq c.args.cache.now c.work_out-answer.new.cache c.args.input c.args.root_depth c.new-evaluation.ensures.fits (g.D.Delegate.starts c.args.inspect.now) (g.D.Delegate.starts c.work_out-answer.new.inspect) _ c.work_out-answer.new.evaluation c.work_out-answer.result
-    (worked_out g.D.Delegate g.D.Cx.Cx g.D.Cx.Input.PartialEq.eq c.args.cache.now c.work_out-answer.new.cache c.args.input c.args.root_depth c.new-evaluation.ensures.fits (g.D.Delegate.starts c.args.inspect.now) (g.D.Delegate.starts c.work_out-answer.new.inspect) _ c.work_out-answer.new.evaluation c.work_out-answer.result (rw c.new-evaluation.ensures.begins at c.work_out-answer.ensures.evaluates.ended) (rw c.new-evaluation.ensures.begins at c.work_out-answer.ensures.evaluates.stopped))
+returns-clause-plain_faults g c = worked_plain_faults g.D.Delegate g.D.Cx.Cx g.D.Cx.Input.PartialEq.eq c.args.cache.now c.work_out-answer.new.cache c.args.input c.args.root_depth c.new-evaluation.ensures.fits (g.D.Delegate.starts c.args.inspect.now) (g.D.Delegate.starts c.work_out-answer.new.inspect) _ _ c.work_out-answer.new.evaluation c.work_out-answer.result
+    (worked_out g.D.Delegate g.D.Cx.Cx g.D.Cx.Input.PartialEq.eq c.args.cache.now c.work_out-answer.new.cache c.args.input c.args.root_depth c.new-evaluation.ensures.fits (g.D.Delegate.starts c.args.inspect.now) (g.D.Delegate.starts c.work_out-answer.new.inspect) _ _ c.work_out-answer.new.evaluation c.work_out-answer.result (rw c.new-evaluation.ensures.begins at c.work_out-answer.ensures.evaluates.ended) (rw c.new-evaluation.ensures.begins at c.work_out-answer.ensures.evaluates.stopped))
 
 pub returns-clause-frames : goal.returns-clause-frames
-returns-clause-frames g c = worked_within g.D.Delegate g.D.Cx.Cx g.D.Cx.Input.PartialEq.eq c.args.cache.now c.work_out-answer.new.cache c.args.input c.args.root_depth c.new-evaluation.ensures.fits (g.D.Delegate.starts c.args.inspect.now) (g.D.Delegate.starts c.work_out-answer.new.inspect) _ c.work_out-answer.new.evaluation c.work_out-answer.result
-    (worked_out g.D.Delegate g.D.Cx.Cx g.D.Cx.Input.PartialEq.eq c.args.cache.now c.work_out-answer.new.cache c.args.input c.args.root_depth c.new-evaluation.ensures.fits (g.D.Delegate.starts c.args.inspect.now) (g.D.Delegate.starts c.work_out-answer.new.inspect) _ c.work_out-answer.new.evaluation c.work_out-answer.result (rw c.new-evaluation.ensures.begins at c.work_out-answer.ensures.evaluates.ended) (rw c.new-evaluation.ensures.begins at c.work_out-answer.ensures.evaluates.stopped))
+returns-clause-frames g c = worked_within g.D.Delegate g.D.Cx.Cx g.D.Cx.Input.PartialEq.eq c.args.cache.now c.work_out-answer.new.cache c.args.input c.args.root_depth c.new-evaluation.ensures.fits (g.D.Delegate.starts c.args.inspect.now) (g.D.Delegate.starts c.work_out-answer.new.inspect) _ _ c.work_out-answer.new.evaluation c.work_out-answer.result
+    (worked_out g.D.Delegate g.D.Cx.Cx g.D.Cx.Input.PartialEq.eq c.args.cache.now c.work_out-answer.new.cache c.args.input c.args.root_depth c.new-evaluation.ensures.fits (g.D.Delegate.starts c.args.inspect.now) (g.D.Delegate.starts c.work_out-answer.new.inspect) _ _ c.work_out-answer.new.evaluation c.work_out-answer.result (rw c.new-evaluation.ensures.begins at c.work_out-answer.ensures.evaluates.ended) (rw c.new-evaluation.ensures.begins at c.work_out-answer.ensures.evaluates.stopped))
 
 pub returns-clause-within : goal.returns-clause-within
-returns-clause-within g c = worked_depths g.D.Delegate g.D.Cx.Cx g.D.Cx.Input.PartialEq.eq c.args.cache.now c.work_out-answer.new.cache c.args.input c.args.root_depth c.new-evaluation.ensures.fits (g.D.Delegate.starts c.args.inspect.now) (g.D.Delegate.starts c.work_out-answer.new.inspect) _ c.work_out-answer.new.evaluation c.work_out-answer.result
-    (worked_out g.D.Delegate g.D.Cx.Cx g.D.Cx.Input.PartialEq.eq c.args.cache.now c.work_out-answer.new.cache c.args.input c.args.root_depth c.new-evaluation.ensures.fits (g.D.Delegate.starts c.args.inspect.now) (g.D.Delegate.starts c.work_out-answer.new.inspect) _ c.work_out-answer.new.evaluation c.work_out-answer.result (rw c.new-evaluation.ensures.begins at c.work_out-answer.ensures.evaluates.ended) (rw c.new-evaluation.ensures.begins at c.work_out-answer.ensures.evaluates.stopped))
+returns-clause-within g c = worked_depths g.D.Delegate g.D.Cx.Cx g.D.Cx.Input.PartialEq.eq c.args.cache.now c.work_out-answer.new.cache c.args.input c.args.root_depth c.new-evaluation.ensures.fits (g.D.Delegate.starts c.args.inspect.now) (g.D.Delegate.starts c.work_out-answer.new.inspect) _ _ c.work_out-answer.new.evaluation c.work_out-answer.result
+    (worked_out g.D.Delegate g.D.Cx.Cx g.D.Cx.Input.PartialEq.eq c.args.cache.now c.work_out-answer.new.cache c.args.input c.args.root_depth c.new-evaluation.ensures.fits (g.D.Delegate.starts c.args.inspect.now) (g.D.Delegate.starts c.work_out-answer.new.inspect) _ _ c.work_out-answer.new.evaluation c.work_out-answer.result (rw c.new-evaluation.ensures.begins at c.work_out-answer.ensures.evaluates.ended) (rw c.new-evaluation.ensures.begins at c.work_out-answer.ensures.evaluates.stopped))
 
 pub returns-clause-limits : goal.returns-clause-limits
-returns-clause-limits g c = worked_limits g.D.Delegate g.D.Cx.Cx g.D.Cx.Input.PartialEq.eq c.args.cache.now c.work_out-answer.new.cache c.args.input c.args.root_depth c.new-evaluation.ensures.fits (g.D.Delegate.starts c.args.inspect.now) (g.D.Delegate.starts c.work_out-answer.new.inspect) _ c.work_out-answer.new.evaluation Inductive c.work_out-answer.result
-    (worked_out g.D.Delegate g.D.Cx.Cx g.D.Cx.Input.PartialEq.eq c.args.cache.now c.work_out-answer.new.cache c.args.input c.args.root_depth c.new-evaluation.ensures.fits (g.D.Delegate.starts c.args.inspect.now) (g.D.Delegate.starts c.work_out-answer.new.inspect) _ c.work_out-answer.new.evaluation c.work_out-answer.result (rw c.new-evaluation.ensures.begins at c.work_out-answer.ensures.evaluates.ended) (rw c.new-evaluation.ensures.begins at c.work_out-answer.ensures.evaluates.stopped))
+returns-clause-limits g c = worked_limits g.D.Delegate g.D.Cx.Cx g.D.Cx.Input.PartialEq.eq c.args.cache.now c.work_out-answer.new.cache c.args.input c.args.root_depth c.new-evaluation.ensures.fits (g.D.Delegate.starts c.args.inspect.now) (g.D.Delegate.starts c.work_out-answer.new.inspect) _ _ c.work_out-answer.new.evaluation Inductive c.work_out-answer.result
+    (worked_out g.D.Delegate g.D.Cx.Cx g.D.Cx.Input.PartialEq.eq c.args.cache.now c.work_out-answer.new.cache c.args.input c.args.root_depth c.new-evaluation.ensures.fits (g.D.Delegate.starts c.args.inspect.now) (g.D.Delegate.starts c.work_out-answer.new.inspect) _ _ c.work_out-answer.new.evaluation c.work_out-answer.result (rw c.new-evaluation.ensures.begins at c.work_out-answer.ensures.evaluates.ended) (rw c.new-evaluation.ensures.begins at c.work_out-answer.ensures.evaluates.stopped))
     c.work_out-answer.ensures.grounded.caused
 
 pub returns-clause-spared : goal.returns-clause-spared

@@ -1,5 +1,5 @@
 use Rattle.std.proofs.Common.{◌∙◌, refl, sym, subst}
-use Rattle.search_graph.specs.Below.{ChangesNewest, fates_of, IfFinished, IsFated, IsNewestToStore, IsRememberedWhere, MovesFates, CanStep, Request, NotesCandidate, Evaluate, Done, verdicts, CallGoesOn, IsFit, StopsWith, runs_of, work_left}
+use Rattle.search_graph.specs.Below.{ChangesNewest, fates_of, IfFinished, IsFated, IsNewestToStore, IsRememberedWhere, MeetsNewest, MovesFates, CanStep, Request, NotesCandidate, Evaluate, Done, verdicts, CallGoesOn, IsFit, StopsWith, runs_of, work_left}
 use Rattle.search_graph.proofs.requests.Advancing.{has_expected, has_request, requests, step_stops, stepped_right}
 use Rattle.search_questions.proofs.moves.Asking.{asked_goes_on, asked_right}
 use Rattle.search_state.proofs.nodes.Noting.{noted_same}
@@ -68,7 +68,7 @@ returns-in_ok-next-in-Evaluate-clause-advances g c = record {
       let ready = stepped_ready g.D.Delegate g.D.Cx.Cx c.cx-cx.result g.D.Cx.Input.PartialEq.eq (g.D.Delegate.script c.args.cache.now.cx) c.args.cache.now.nodes c.args.evaluation.now.provisional c.args.received c.in_ok-request.request c.args.evaluation.now.goals c.step.new.goals c.in_ok-request.ensures.stepped c.requires.reply.right.right.ready in
       let on = asked_goes_on g.D.Delegate g.D.Cx.Cx g.D.Cx.Input.PartialEq.eq c.args.cache.now.cx c.in-Evaluate.kind c.in-Evaluate.input c.args.cache.now (record c.args.evaluation.now { goals = c.step.new.goals }) (g.D.Delegate.starts c.step.new.inspect) g.met.D.Delegate.divides g.met.D.Cx.Cx.same_input g.met.D.Cx.Input.Eq.laws.refl (g.met.D.Delegate.initial_sort c.args.cache.now.cx) (g.D.Delegate.noop c.step.new.inspect) c.in_ok-next-in-Evaluate.next c.ask.new.cache c.ask.new.evaluation (g.D.Delegate.starts c.ask.new.inspect) c.in_ok-next-in-Evaluate.ensures.asked ready call _
       (requests g.D.Delegate g.D.Cx.Cx g.D.Cx.Input.PartialEq.eq c.args.cache.now.cx c.args.cache.now c.args.evaluation.now c.args.received c.cx-cx.result c.cx-cx.ensures c.in_ok-request.request c.step.new.goals c.in_ok-request.ensures.stepped (g.D.Delegate.starts c.args.inspect.now) (g.D.Delegate.starts c.step.new.inspect) c.step.ensures.same_starts (Evaluate c.in-Evaluate.kind c.in-Evaluate.input) c.in-Evaluate.is c.requires.reply.right call h) in
-      record { leads = on.goes_on; answers = on.answers; remembered = tt };
+      record { leads = on.goes_on; answers = on.answers; remembered = tt; compared = tt };
   stops = λ call h. tt;
 }
 
@@ -104,6 +104,7 @@ returns-in_ok-next-in-Done-clause-advances g c = record {
         leads = done_leads g.D.Delegate g.D.Cx.Cx c.args.cache.now.cx c.args.received c.args.evaluation.now.goals c.step.new.goals c.cx-cx.result c.in_ok-request.request c.in_ok-request.ensures.stepped call c.in_ok-next-in-Done.next c.finish_run.new.evaluation.goals _ _ on.leads;
         answers = on.answers;
         remembered = subst (λ fs. IfFinished c.in_ok-next-in-Done.next (λ answer. IsNewestToStore fs → IsRememberedWhere g.D.Delegate g.D.Cx.Cx c.args.cache.now.cx g.D.Cx.Input.PartialEq.eq call c.finish_run.new.cache c.finish_run.new.evaluation.limits_met answer)) (fates_stepped g.D.Delegate g.D.Cx.Cx c.cx-cx.result c.args.evaluation.now.goals c.step.new.goals c.args.received c.in_ok-request.request c.in_ok-request.ensures.stepped) on.remembered;
+        compared = subst (λ fs. IfFinished c.in_ok-next-in-Done.next (λ answer. MeetsNewest fs answer.result)) (fates_stepped g.D.Delegate g.D.Cx.Cx c.cx-cx.result c.args.evaluation.now.goals c.step.new.goals c.args.received c.in_ok-request.request c.in_ok-request.ensures.stepped) on.compared;
       };
   stops = λ call h. tt;
 }
@@ -144,6 +145,7 @@ returns-in_ok-note_candidate-in_default-clause-advances g c = record {
         (requests g.D.Delegate g.D.Cx.Cx g.D.Cx.Input.PartialEq.eq c.args.cache.now.cx c.args.cache.now c.args.evaluation.now c.args.received c.cx-cx.result c.cx-cx.ensures c.in_ok-request.request c.step.new.goals c.in_ok-request.ensures.stepped (g.D.Delegate.starts c.args.inspect.now) (g.D.Delegate.starts c.step.new.inspect) c.step.ensures.same_starts c.in_ok-request.request refl c.requires.reply.right call h).asked);
     answers = h.answers;
     remembered = tt;
+    compared = tt;
   };
   stops = λ call h. tt;
 }

@@ -8,7 +8,7 @@ use Rattle.search_graph.proofs.turns.Turns.{begins_drafts, then_turns}
 use Rattle.search_graph.specs.Turns.{IsRightTurn}
 use Rattle.search_state.specs.Drafts.{LeavesReached}
 use Rattle.search_rules.proofs.moves.Questions.{if_err_and, no_ok}
-use Rattle.search_graph.proofs.turns.KeptFates.{not_stored, first_fates, only_stores, then_fates, then_recorded, then_spared}
+use Rattle.search_graph.proofs.turns.KeptFates.{not_stored, first_fates, only_meets, only_stores, then_fates, then_recorded, then_spared}
 use Rattle.search_graph.proofs.turns.Loops.{call_of, only_one, some_call_begins, only_has_graph}
 use Rattle.graph_nodes.proofs.Finished.{KeepsFinished-nodes}
 use Rattle.between_moves.proofs.SettledStores.{settled_stays}
@@ -121,6 +121,9 @@ returns-in-Finished-clause-evaluates g c = record {
         remembered = λ is_stored.
             let only = only_one g.D.Delegate g.D.Cx.Cx c.args.cache.now.cx c.loop-next.evaluation.goals call.top on.leads.1 in
             on.remembered (only_stores (g.D.Delegate.scoped c.args.cache.now.cx) (g.D.Delegate.script c.args.cache.now.cx) g.D.Cx.Input.PartialEq.eq (g.D.Delegate.noop c.args.inspect.now) c.args.input c.args.fate c.args.cache.now.results c.loop-next.evaluation.goals only.0 only.1 is_stored c.loop-next.invariant.fates.oldest);
+        compared = λ stored is_compared.
+            let only = only_one g.D.Delegate g.D.Cx.Cx c.args.cache.now.cx c.loop-next.evaluation.goals call.top on.leads.1 in
+            only_meets (g.D.Delegate.scoped c.args.cache.now.cx) (g.D.Delegate.script c.args.cache.now.cx) g.D.Cx.Input.PartialEq.eq (g.D.Delegate.noop c.args.inspect.now) c.args.input c.args.fate c.args.cache.now.results c.loop-next.evaluation.goals only.0 only.1 c.in-Finished.answer.result stored is_compared c.loop-next.invariant.fates.oldest on.compared;
       };
   stopped = λ call at. tt;
 }
