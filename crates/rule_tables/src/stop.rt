@@ -71,9 +71,11 @@ impl From<ReadFault> for Stop {
 
 impl From<InputFault> for Stop {
     ghost use Rattle.std.specs.Prelude.{◌≡◌, ◌⊎◌};
+    ghost use Rattle.line_texts.specs.declared.input.InputFault.TheVariants as input;
     ghost use Rattle.rule_tables.specs.declared.stop.Stop.TheVariants.{InputOrOutput, Memory};
 
-    ghost from_gives = { λ _ stop. (stop ≡ InputOrOutput) ⊎ (stop ≡ Memory) };
+    ghost from_gives = { λ fault stop. ((fault ≡ input.Failed) × (stop ≡ InputOrOutput))
+        ⊎ ((fault ≡ input.Memory) × (stop ≡ Memory)) };
 
     fn from(fault: InputFault) -> Stop {
         match fault {
