@@ -106,8 +106,16 @@ fn tell_failed(rt: &impl Print, failed: Failed) -> Result<(), Fail> {
 
 /// The number that the word is.
 fn number_in(word: &[u8]) -> Result<u64, Fail> {
-    let word = std::str::from_utf8(word).map_err(|_| "no text")?;
-    Ok(word.trim().parse::<u64>().map_err(|_| "no number")?)
+    let mut number = 0u64;
+    for byte in word {
+        let b'0'..=b'9' = *byte else {
+            return Err("no number")?;
+        };
+        number = number
+            .saturating_mul(10)
+            .saturating_add(u64::from(*byte - b'0'));
+    }
+    Ok(number)
 }
 
 /// Room for the input.

@@ -26,6 +26,26 @@ impl<X: Cx> NestedTest<X> for Anything {
     }
 }
 
+/// What came of asking a goal on a graph of its own.
+#[derive(Clone, Copy)]
+struct Asked {
+    answer: Result<Answer<Outcome>, Fault<Goal, Outcome>>,
+    is_idle: bool,
+    is_limit_met: bool,
+}
+
+/// What is seen of a goal that was asked twice.
+#[derive(Clone, Copy, PartialEq, Eq)]
+struct Seen {
+    first: Outcome,
+    is_answered_again: bool,
+    is_started_again: bool,
+    is_limit_met: bool,
+    is_idle: bool,
+    stored: Option<Outcome>,
+    found: Option<Outcome>,
+}
+
 /// What the text's first question comes to, if it comes to it again without memory.
 pub fn answer_again(alloc: Global, text: &[u8]) -> Result<Outcome, Failed> {
     let rules = Rules::read(alloc, text)?;
@@ -33,25 +53,90 @@ pub fn answer_again(alloc: Global, text: &[u8]) -> Result<Outcome, Failed> {
         return Err(Failed::Malformed);
     };
     let cx = Table { lender: &rules };
-    answer_with::<Table<&Rules>, TableDelegate<'_, 8, 1>>(alloc, cx, depth, goal)
+    let seen = see_with::<Table<&Rules>, TableDelegate<'_, 8, 1>>(alloc, cx, depth, goal);
+    outcome_of(seen)
 }
 
-fn answer_with<X, D>(alloc: Global, cx: X, depth: usize, goal: Goal) -> Result<Outcome, Failed>
+/// What the goal came to, if nothing is wrong.
+fn outcome_of(seen: Option<Seen>) -> Result<Outcome, Failed> {
+    let Some(seen) = seen else {
+        return Err(Failed::Memory);
+    };
+    let wanted = Seen {
+        first: seen.first,
+        is_answered_again: true,
+        is_started_again: false,
+        is_limit_met: false,
+        is_idle: true,
+        stored: Some(seen.first),
+        found: Some(seen.first),
+    };
+    ensure(
+        seen == wanted,
+        "what is stored is not answered without memory",
+    )?;
+    Ok(seen.first)
+}
+
+/// What is seen of the goal, or nothing where memory was out at first.
+fn see_with<X, D>(alloc: Global, cx: X, depth: usize, goal: Goal) -> Option<Seen>
 where
     X: Cx<Input = Goal, Result = Outcome>,
     D: Delegate<Cx = X, ProofTreeBuilder = Builder>,
 {
-    let is_answered = are_candidates_answered::<X, D>(alloc, depth);
-    ensure(
-        is_answered,
-        "the calls on candidates are answered otherwise",
-    )?;
     let mut cache = new_cache::<X, D>(alloc, cx);
-    answer_over::<X, D>(alloc, &mut cache, depth, goal)
+    see_over::<X, D>(alloc, &mut cache, depth, goal)
+}
+
+/// Fills the cache, and asks for what needs no memory then.
+fn see_over<X, D>(
+    alloc: Global,
+    cache: &mut GlobalCache<D>,
+    depth: usize,
+    goal: Goal,
+) -> Option<Seen>
+where
+    X: Cx<Input = Goal, Result = Outcome>,
+    D: Delegate<Cx = X, ProofTreeBuilder = Builder>,
+{
+    let mut builder = Builder::new(true);
+    let Ok(first) = ask::<X, D>(alloc, cache, depth, goal, &mut builder).answer else {
+        return None;
+    };
+    let started = builder.started();
+    let again = ask::<X, D>(alloc, cache, depth, goal, &mut builder);
+    Some(Seen {
+        first: first.result,
+        is_answered_again: again.answer == Ok(first),
+        is_started_again: builder.started() != started,
+        is_limit_met: again.is_limit_met,
+        is_idle: again.is_idle && answers_candidates::<X, D>(alloc, depth),
+        stored: stored_of::<X, D>(cache, depth, goal),
+        found: found_of::<X, D>(cache, depth, goal),
+    })
+}
+
+fn ask<X, D>(
+    alloc: Global,
+    cache: &mut GlobalCache<D>,
+    depth: usize,
+    goal: Goal,
+    builder: &mut Builder,
+) -> Asked
+where
+    X: Cx<Input = Goal, Result = Outcome>,
+    D: Delegate<Cx = X, ProofTreeBuilder = Builder>,
+{
+    let mut graph = new_graph::<X, D>(alloc, depth);
+    Asked {
+        answer: evaluate::<X, D>(&mut graph, cache, goal, PathKind::Inductive, builder),
+        is_idle: is_idle::<X, D>(&graph),
+        is_limit_met: graph.limits_met(),
+    }
 }
 
 /// Whether a graph without goals refuses to enter a candidate and to finish one, and lets uses of none be ignored.
-fn are_candidates_answered<X, D>(alloc: Global, depth: usize) -> bool
+fn answers_candidates<X, D>(alloc: Global, depth: usize) -> bool
 where
     X: Cx<Input = Goal, Result = Outcome>,
     D: Delegate<Cx = X, ProofTreeBuilder = Builder>,
@@ -60,54 +145,6 @@ where
     graph.enter_single_candidate() == Err(Fault::Protocol(5))
         && graph.finish_single_candidate().is_err()
         && graph.ignore_candidate_head_usages(CandidateHeadUsages::new(alloc)) == Ok(())
-}
-
-/// Fills the cache, and asks for what needs no memory then.
-fn answer_over<X, D>(
-    alloc: Global,
-    cache: &mut GlobalCache<D>,
-    depth: usize,
-    goal: Goal,
-) -> Result<Outcome, Failed>
-where
-    X: Cx<Input = Goal, Result = Outcome>,
-    D: Delegate<Cx = X, ProofTreeBuilder = Builder>,
-{
-    let mut builder = Builder::new(true);
-    let (first, _) = ask::<X, D>(alloc, cache, depth, goal, &mut builder)?;
-    let first = first.map_err(|_| Failed::Memory)?;
-    let started = builder.started();
-    let (second, is_limit_met) = ask::<X, D>(alloc, cache, depth, goal, &mut builder)?;
-    ensure(second == Ok(first), "what is stored is answered otherwise")?;
-    ensure(
-        builder.started() == started,
-        "what is stored is worked out again",
-    )?;
-    ensure(!is_limit_met, "a limit is met by what is stored")?;
-    let outcome = first.result;
-    let is_stored = stored_of::<X, D>(cache, depth, goal) == Some(outcome);
-    ensure(is_stored, "the result is not stored")?;
-    let is_found = found_of::<X, D>(cache, depth, goal) == Some(outcome);
-    ensure(is_found, "what is stored is not found")?;
-    Ok(outcome)
-}
-
-/// What the goal comes to, and whether a limit was met. No goal may be left under evaluation.
-fn ask<X, D>(
-    alloc: Global,
-    cache: &mut GlobalCache<D>,
-    depth: usize,
-    goal: Goal,
-    builder: &mut Builder,
-) -> Result<(Result<Answer<Outcome>, Fault<Goal, Outcome>>, bool), Failed>
-where
-    X: Cx<Input = Goal, Result = Outcome>,
-    D: Delegate<Cx = X, ProofTreeBuilder = Builder>,
-{
-    let mut graph = new_graph::<X, D>(alloc, depth);
-    let answer = evaluate::<X, D>(&mut graph, cache, goal, PathKind::Inductive, builder);
-    ensure(is_idle::<X, D>(&graph), "goals are left under evaluation")?;
-    Ok((answer, graph.limits_met()))
 }
 
 /// What is stored of the goal.
@@ -128,6 +165,8 @@ where
     X: Cx<Input = Goal, Result = Outcome>,
     D: Delegate<Cx = X, ProofTreeBuilder = Builder>,
 {
-    let found = cache.get(goal, AvailableDepth(depth), &Anything);
-    found.map(|found| found.result)
+    match cache.get(goal, AvailableDepth(depth), &Anything) {
+        Some(found) => Some(found.result),
+        None => None,
+    }
 }
