@@ -2,3 +2,4 @@
 pub mod Said
 pub mod LimitsAtEnd
 pub mod EndedGoals
+pub mod Ended

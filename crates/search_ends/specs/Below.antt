@@ -5,7 +5,7 @@ pub use Rattle.cycle_heads.specs.declared.depth.StackDepth.{StackDepth}
 pub use Rattle.cycle_heads.specs.declared.heads.CycleHead.{CycleHead}
 pub use Rattle.path_kinds.specs.declared.path.PathKind.{PathKind}
 pub use Rattle.cycle_heads.specs.declared.usages.HeadUsages.{HeadUsages}
-pub use Rattle.search_context.specs.Delegate.{IsNeither, KeepsBuilder}
+pub use Rattle.search_context.specs.Delegate.{CountsOne, IsNeither, KeepsBuilder}
 pub use Rattle.search_context.specs.Rank.{IsPlainTo, IsPlainValue}
 pub use Rattle.search_context.specs.Verdicts.{IsDefinite, verdict_of, Verdicts, verdicts}
 pub use Rattle.search_context.specs.declared.context.Cx.{Ghosts as CxOf}

@@ -1,7 +1,8 @@
 -- A goal is popped with its result.
-use Rattle.std.specs.Prelude.{◌≡◌, Bool, List, [], ◌∷◌, Option}
+use Rattle.std.specs.Prelude.{◌≡◌, ℕ, Bool, List, [], ◌∷◌, Option, Result, IfOk, IfErr}
 use Rattle.run_records.specs.declared.runs.Fate.TheVariants as becomes
-use Rattle.search_ends.specs.Below.{DelegateOf, CxOf, OpenGoal, RebaseReason, Next, Cache, IsDefinite, verdicts, IsRight, IsRightNext}
+use Rattle.search_ends.specs.Below.{ChangesCache, DelegateOf, CxOf, Fault, IsNewestPlainTo, KeepsNoted, MayPutNewest, Memory, OpenGoal, RebaseReason, Next, Cache, IsDefinite, verdicts, IsRight, IsRightNext}
+use Rattle.search_ends.specs.Storing.{Fails}
 use Rattle.search_state.specs.declared.evaluation.Evaluation.{Evaluation}
 use Rattle.search_rules.specs.Moves.{CanLeave, LeavesNested, NewestLeaves}
 use Rattle.search_rules.specs.Provisional.{HasReason, IsNewestUnranked, RebasesNewest}
@@ -37,3 +38,13 @@ module _ {D C V P F I R A T : Type 0} (G : DelegateOf D C V P F I R A T) (X : Cx
     pub puts : StoresNewest same before.goals outcome (node_given next) old.results new.results
     pub rebased : RebasesNewest same G.ENABLE_PROVISIONAL_CACHE (G.propagated old.cx) (G.fixpoint_overflow old.cx) reason outcome (node_given next) before.goals before.provisional after.provisional
     pub right : IsRightNext G X same old.cx before.goals next new after
+
+  -- It was popped, or could not be, for want of memory or since another result is stored than it came to. No other goal's results changed.
+  pub record PopsOrFails (result : Result (Next R) (Fault I R)) (new : Cache C I R A T) (after : Evaluation D C V P F I R A T) : Type 0 where
+    pub popped : IfOk result (λ next. Pops next new after)
+    pub fails : IfErr result (Fails G X same outcome old new after.drafts)
+    pub plain : (n : ℕ) → IsNewestPlainTo (G.script old.cx) n before.goals → IfErr result (λ fault. fault ≡ Memory)
+    pub stored : MayPutNewest same before.goals outcome old.results new.results
+    pub cache : ChangesCache same before.goals old new
+    pub noted : KeepsNoted same old before.drafts new after.drafts
+    pub rest : after ≡ record before { goals = after.goals; provisional = after.provisional; drafts = after.drafts }

@@ -1,7 +1,7 @@
 //! The newest goal's run ends.
-ghost use Rattle.std.specs.Prelude.{IfOk, Some};
-ghost use Rattle.search_ends.specs.Below.{Done, fates_of, HaveExpected, KeepsBuilder, ChangesCache, HasRequest, Moves, IsRightNext};
-ghost use Rattle.search_ends.specs.Words.{RunLeads, MeetsLimitAtEnd, StoresOrFails};
+ghost use Rattle.std.specs.Prelude.{Some};
+ghost use Rattle.search_ends.specs.Below.{Done, fates_of, HaveExpected, KeepsBuilder, HasRequest};
+ghost use Rattle.search_ends.specs.Words.{RunEnds};
 
 use crate::pop::pop_goal;
 use crate::rerun::run_again;
@@ -25,20 +25,9 @@ pub fn finish_run<D: Delegate>(
         cache.old evaluation.old (D.starts inspect.old) }
     requires expected { HaveExpected (D.scoped cache.old.cx) (D.script cache.old.cx)
         D.Cx.Input.eq cache.old.results (fates_of evaluation.old.goals) }
-    ensures moves { Moves D.Delegate D.Cx.Cx D.Cx.Input.eq cache.old.cx (Done outcome)
+    ensures ended { RunEnds D.Delegate D.Cx.Cx D.Cx.Input.eq D.Cx.Result.eq outcome
         cache.old evaluation.old (D.starts inspect.old) result
         cache.new evaluation.new (D.starts inspect.new) }
-    ensures leads { IfOk result (λ next.
-        RunLeads D.Delegate D.Cx.Cx D.Cx.Input.eq D.Cx.Result.eq outcome cache.old evaluation.old
-        next cache.new evaluation.new) }
-    ensures meets { MeetsLimitAtEnd D.Delegate D.Cx.Result.eq outcome evaluation.old
-        evaluation.new.limits_met }
-    ensures right { IfOk result (λ next.
-        IsRightNext D.Delegate D.Cx.Cx D.Cx.Input.eq cache.old.cx evaluation.old.goals next
-        cache.new evaluation.new) }
-    ensures stores { StoresOrFails D.Delegate D.Cx.Cx D.Cx.Input.eq cache.old evaluation.old.drafts
-        result cache.new evaluation.new.drafts }
-    ensures cache { ChangesCache D.Cx.Input.eq evaluation.old.goals cache.old cache.new }
     ensures builder { KeepsBuilder D.starts D.noop inspect.old inspect.new }
 {
     let finished_runs = evaluation.goals.last_run().finished_runs;

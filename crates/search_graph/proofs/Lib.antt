@@ -1,4 +1,5 @@
 pub mod requests
 pub mod turns
+pub mod ran
 pub mod promises
 pub mod lists

@@ -1,6 +1,6 @@
 -- What a move, and the whole of an evaluation, comes to in whatever call it is made.
 use Rattle.std.specs.Prelude.{◌≡◌, ◌≢◌, ℕ, Bool, true, false, List, None, Option, Result, IfOk, IfErr, IfSome}
-use Rattle.search_graph.specs.Below.{Awaits, Begins, Cache, CacheNode, Call, CxOf, DelegateOf, EndsWith, Fated, Fault, fates_of, HasGraph, Hit, IsCaused, KeepsFinished, KeepsNodes, KeepsResults, LeadsTo, Memory, MovesFates, Next, Place, Received, StayFrom, OpenGoal, Store, stored_at, StopsWith, verdicts, work_left}
+use Rattle.search_graph.specs.Below.{Begins, Cache, CacheNode, Call, CxOf, DelegateOf, EndsWith, Fated, Fault, fates_of, HasGraph, Hit, IsCaused, KeepsFinished, KeepsNodes, KeepsResults, Memory, MovesFates, Place, StayFrom, OpenGoal, Store, stored_at, StopsWith, verdicts}
 use Rattle.run_records.specs.declared.runs.Fate.{Fate}
 use Rattle.run_records.specs.declared.runs.Fate.TheVariants as becomes
 use Rattle.search_context.specs.declared.context.Answer.{Answer}
@@ -42,12 +42,6 @@ pub record IsGrounded {D C V P F I R A T : Type 0} (G : DelegateOf D C V P F I R
   pub left : IfErr result (λ fault. fault ≢ Memory → LeavesReached same first None cache)
 
 module _ {D C V P F I R A T : Type 0} (G : DelegateOf D C V P F I R A T) (X : CxOf C I R A T) (same : I → I → Bool) (cx : C) where
-  -- where the newest goal awaited the reply, what comes next leads on, or a fault stops the call
-  pub record Advances (received : Received R) (old : Cache C I R A T) (before : Evaluation D C V P F I R A T) (from : ℕ) (result : Result (Next R) (Fault I R)) (new : Cache C I R A T) (after : Evaluation D C V P F I R A T) (to : ℕ) : Type 0 where
-    pub leads : (call : Call I) → Awaits G X same cx call received old before from
-        → IfOk result (λ next. LeadsTo G X same cx call (work_left G X cx before.goals) before.goals next new after to)
-    pub stops : (call : Call I) → Awaits G X same cx call received old before from → IfErr result (λ fault. StopsWith G X same cx call fault new after to)
-
   -- where the call began, an answer ended it, which is stored where this holds and whose result is as this says, or a fault stopped it
   pub record Evaluates (is_stored : Type 0) (is_expected : R → Type 0) (goal : I) (old : Cache C I R A T) (before : Evaluation D C V P F I R A T) (from : ℕ) (result : Result (Answer R) (Fault I R)) (new : Cache C I R A T) (after : Evaluation D C V P F I R A T) (to : ℕ) : Type 0 where
     pub ended : (call : Call I) → Begins G X cx same call goal before.root_depth.0 from before.limits_met old.results

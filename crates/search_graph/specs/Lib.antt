@@ -4,5 +4,7 @@ pub mod Fates
 pub mod Calls
 pub mod Settled
 pub mod Turns
+pub mod Ran
+pub mod Worked
 pub mod Below
 pub mod Words

@@ -1,8 +1,8 @@
 -- Calls for which two runs of a goal are enough, and lists of such calls.
-use Rattle.std.specs.Prelude.{All, Bool, Contains, false, ◌≡◌, ◌≤◌, length, List, ℕ, Result, IfOk, IfErr, OnErr, slice_get, Some}
+use Rattle.std.specs.Prelude.{All, Bool, Contains, false, ◌≡◌, ◌≤◌, length, List, ℕ, Result, IfOk, IfErr, slice_get, Some}
 use Rattle.search_context.specs.declared.context.Answer.{Answer}
-use Rattle.search_graph.specs.Below.{AreDefinite, Awaits, Begins, Cache, Call, CxOf, DelegateOf, Fault, HaveNoOverflowOf, IsDefinite, IsMemoryOrOrder, Next, PathKind, Received, verdicts}
-use Rattle.between_moves.specs.Settled.{IsSettledStore, Settles, SettlesNext}
+use Rattle.search_graph.specs.Below.{AreDefinite, Begins, Cache, Call, CxOf, DelegateOf, Fault, HaveNoOverflowOf, IsDefinite, IsMemoryOrOrder, PathKind, verdicts}
+use Rattle.between_moves.specs.Settled.{IsSettledStore}
 use Rattle.search_state.specs.declared.evaluation.Evaluation.{Evaluation}
 use Rattle.search_rules.specs.Settled.{CallNeedsTwoRuns, NeedsTwoRuns}
 
@@ -23,14 +23,7 @@ module _ {D C V P F I R A T : Type 0} (G : DelegateOf D C V P F I R A T) (X : Cx
         → IfOk answer (λ a. IsDefinite (verdicts X) a.result) × IfErr answer (λ fault. IsMemoryOrOrder fault)
 
   module _ (cx : C) (noop : Bool) where
-    -- a move meets no limit, also if it fails, and keeps what answers rest on off the goals under evaluation; one that fails leaves the
-    -- stored results settled
-    pub record StaysSettled (received : Received R) (old : Cache C I R A T) (before : Evaluation D C V P F I R A T) (from : ℕ) (result : Result (Next R) (Fault I R)) (new : Cache C I R A T) (after : Evaluation D C V P F I R A T) : Type 0 where
-      pub unmet : (call : Call I) → Awaits G X same cx call received old before from → CallNeedsTwoRuns G X cx call noop → Settles G X same cx call received old before → after.limits_met ≡ false
-      pub settles : (call : Call I) → Awaits G X same cx call received old before from → CallNeedsTwoRuns G X cx call noop → Settles G X same cx call received old before → IfOk result (λ next. SettlesNext G X same cx call next new after)
-      pub leaves : (call : Call I) → Awaits G X same cx call received old before from → CallNeedsTwoRuns G X cx call noop → Settles G X same cx call received old before → OnErr result (IsSettledStore G X same cx call.goals new.nodes new.results)
-
-    -- an evaluation meets none either, and leaves the stored results settled, whether it has an answer or a fault
+    -- an evaluation meets no limit, and leaves the stored results settled, whether it has an answer or a fault
     pub record EndsSettled (goal : I) (old : Cache C I R A T) (before : Evaluation D C V P F I R A T) (from : ℕ) (result : Result (Answer R) (Fault I R)) (new : Cache C I R A T) (after : Evaluation D C V P F I R A T) : Type 0 where
       pub unmet : (call : Call I) → Begins G X cx same call goal before.root_depth.0 from before.limits_met old.results → CallNeedsTwoRuns G X cx call noop → IsSettledStore G X same cx call.goals old.nodes old.results → after.limits_met ≡ false
       pub settles : (call : Call I) → Begins G X cx same call goal before.root_depth.0 from before.limits_met old.results → CallNeedsTwoRuns G X cx call noop → IsSettledStore G X same cx call.goals old.nodes old.results

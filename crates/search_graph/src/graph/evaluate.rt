@@ -1,13 +1,11 @@
 //! The evaluation of a goal: one loop over the goals under evaluation.
-ghost use Rattle.std.specs.Prelude.{◌≡◌, ◌≢◌, true, false, length, IfOk, IfErr, IfSome, None, OnOk, Ok};
-ghost use Rattle.run_records.specs.declared.runs.Fate.TheVariants.{Stored};
-ghost use Rattle.search_graph.specs.Below.{ChangesCache, IsCaused, IsFated, Memory, first_accepted, usable, KeepsBuilder, KeepsCache, IsRightNext, HasReply, HaveExpected, fates_of};
-ghost use Rattle.search_graph.specs.Calls.{Advances, Evaluates, IsGrounded, IsOfFate, IsOfStored, MovesGoals, Spares};
-ghost use Rattle.search_graph.specs.Settled.{EndsSettled, StaysSettled};
-ghost use Rattle.search_graph.specs.Turns.{HasDrafts, IsAtOutset, IsRightTurn, KeepsDrafts, TurnsCache};
-ghost use Rattle.search_state.specs.Drafts.{KeepsNoted, LeavesReached};
-ghost use Rattle.search_ends.specs.Storing.{HasLastingCause};
-ghost use Rattle.search_rules.specs.Lone.{IsLone};
+ghost use Rattle.std.specs.Prelude.{◌≡◌, true, false, length, IfSome, Ok};
+ghost use Rattle.search_graph.specs.Below.{IsFated, first_accepted, usable, KeepsBuilder, KeepsCache, HasReply, HaveExpected, fates_of};
+ghost use Rattle.search_graph.specs.Calls.{Evaluates, IsGrounded, IsOfStored};
+ghost use Rattle.search_graph.specs.Ran.{Advanced, Ran, Turned, ended};
+ghost use Rattle.search_graph.specs.Settled.{EndsSettled};
+ghost use Rattle.search_graph.specs.Turns.{HasDrafts, IsAtOutset};
+ghost use Rattle.search_graph.specs.Worked.{WorksOut};
 
 use global_cache::GlobalCache;
 use goal_changes::Next;
@@ -89,19 +87,12 @@ pub(crate) fn work_out<D: Delegate>(
     requires fated { IsFated (D.scoped cache.old.cx) (D.script cache.old.cx) D.Cx.Input.eq
         cache.old.results (D.noop inspect.old)
         (record { goal = input; depth = evaluation.old.root_depth.0; fate = fate }) }
-    ensures evaluates { Evaluates D.Delegate D.Cx.Cx D.Cx.Input.eq cache.old.cx
-        (fate ≡ Stored) (IsOfFate fate) input
+    ensures ran { Ran D.Delegate D.Cx.Cx D.Cx.Input.eq D.Cx.Result.eq (D.noop inspect.old)
+        step_kind input fate cache.old evaluation.old (D.starts inspect.old) (ended result)
+        cache.new evaluation.new (D.starts inspect.new) }
+    ensures worked { WorksOut D.Delegate D.Cx.Cx D.Cx.Input.eq (D.noop inspect.old) input fate
         cache.old evaluation.old (D.starts inspect.old) result
         cache.new evaluation.new (D.starts inspect.new) }
-    ensures settled { fate ≡ Stored → (IsLone D.Cx.Input.eq cache.old.results input → ⊥) →
-        EndsSettled D.Delegate D.Cx.Cx D.Cx.Input.eq cache.old.cx
-        (D.noop inspect.old) input cache.old evaluation.old (D.starts inspect.old) result
-        cache.new evaluation.new }
-    ensures spares { Spares D.Cx.Input.eq (D.noop inspect.old) fate input cache.old.results
-        cache.new.results }
-    ensures grounded { IsGrounded D.Delegate D.Cx.Cx D.Cx.Input.eq input (length cache.old.nodes)
-        cache.new result }
-    ensures keeps { KeepsCache D.Cx.Input.eq evaluation.old.goals cache.old cache.new }
     ensures builder { KeepsBuilder D.starts D.noop inspect.old inspect.new }
 {
     let depth = evaluation.root_depth;
@@ -130,25 +121,9 @@ fn take_turn<D: Delegate>(
     requires expected { HaveExpected (D.scoped cache.old.cx) (D.script cache.old.cx)
         D.Cx.Input.eq cache.old.results (fates_of evaluation.old.goals) }
     requires drafts { HasDrafts D.Cx.Input.eq cache.old evaluation.old }
-    ensures advances { Advances D.Delegate D.Cx.Cx D.Cx.Input.eq cache.old.cx received
-        cache.old evaluation.old (D.starts inspect.old) result
+    ensures turned { Turned D.Delegate D.Cx.Cx D.Cx.Input.eq D.Cx.Result.eq (D.noop inspect.old)
+        received cache.old evaluation.old (D.starts inspect.old) result
         cache.new evaluation.new (D.starts inspect.new) }
-    ensures caused { IfErr result (IsCaused D.Delegate D.Cx.Cx D.Cx.Input.eq cache.new) }
-    ensures settled { StaysSettled D.Delegate D.Cx.Cx D.Cx.Input.eq cache.old.cx
-        (D.noop inspect.old) received cache.old evaluation.old (D.starts inspect.old) result
-        cache.new evaluation.new }
-    ensures right { IfOk result (λ next.
-        IsRightTurn D.Delegate D.Cx.Cx D.Cx.Input.eq cache.old.cx evaluation.old.goals next
-        cache.new evaluation.new) }
-    ensures goals { OnOk result (MovesGoals D.Cx.Input.eq
-        (IsFated (D.scoped cache.old.cx) (D.script cache.old.cx) D.Cx.Input.eq cache.old.results
-        (D.noop inspect.old))
-        cache.old.nodes evaluation.old.goals evaluation.new.goals) }
-    ensures cache { TurnsCache D.Cx.Input.eq evaluation.old cache.old cache.new }
-    ensures drafts { IfOk result (λ next.
-        KeepsDrafts D.Cx.Input.eq evaluation.old next cache.new evaluation.new) }
-    ensures left { IfErr result (λ fault. fault ≢ Memory →
-        LeavesReached D.Cx.Input.eq evaluation.old.drafts.first None cache.new) }
     ensures builder { KeepsBuilder D.starts D.noop inspect.old inspect.new }
 {
     match advance::<D>(evaluation, cache, received, inspect) {
@@ -178,24 +153,9 @@ fn advance<D: Delegate>(
         cache.old evaluation.old (D.starts inspect.old) }
     requires expected { HaveExpected (D.scoped cache.old.cx) (D.script cache.old.cx)
         D.Cx.Input.eq cache.old.results (fates_of evaluation.old.goals) }
-    ensures advances { Advances D.Delegate D.Cx.Cx D.Cx.Input.eq cache.old.cx received
-        cache.old evaluation.old (D.starts inspect.old) result
-        cache.new evaluation.new (D.starts inspect.new) }
-    ensures settled { StaysSettled D.Delegate D.Cx.Cx D.Cx.Input.eq cache.old.cx
+    ensures advanced { Advanced D.Delegate D.Cx.Cx D.Cx.Input.eq D.Cx.Result.eq
         (D.noop inspect.old) received cache.old evaluation.old (D.starts inspect.old) result
-        cache.new evaluation.new }
-    ensures right { IfOk result (λ next.
-        IsRightNext D.Delegate D.Cx.Cx D.Cx.Input.eq cache.old.cx evaluation.old.goals next
-        cache.new evaluation.new) }
-    ensures goals { OnOk result (MovesGoals D.Cx.Input.eq
-        (IsFated (D.scoped cache.old.cx) (D.script cache.old.cx) D.Cx.Input.eq cache.old.results
-        (D.noop inspect.old))
-        cache.old.nodes evaluation.old.goals evaluation.new.goals) }
-    ensures cache { ChangesCache D.Cx.Input.eq evaluation.old.goals cache.old cache.new }
-    ensures noted { KeepsNoted D.Cx.Input.eq cache.old evaluation.old.drafts
-        cache.new evaluation.new.drafts }
-    ensures lasts { IfErr result (HasLastingCause D.Delegate D.Cx.Cx D.Cx.Input.eq cache.new
-        evaluation.new.drafts) }
+        cache.new evaluation.new (D.starts inspect.new) }
     ensures builder { KeepsBuilder D.starts D.noop inspect.old inspect.new }
 {
     let cx = cache.cx();
@@ -212,10 +172,7 @@ fn advance<D: Delegate>(
             let next = ask(evaluation, cache, kind, input, inspect)?;
             Ok(Next::Step(next))
         }
-        Request::Done(outcome) => {
-            let next = finish_run(evaluation, cache, outcome, inspect)?;
-            Ok(next)
-        }
+        Request::Done(outcome) => finish_run(evaluation, cache, outcome, inspect),
         request => {
             evaluation
                 .goals

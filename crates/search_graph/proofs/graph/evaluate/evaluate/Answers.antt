@@ -67,12 +67,12 @@ returns-in-Some-clause-grounded g c = record { has_graph = is_some_with _ c.cons
 -- ---- it is worked out
 
 pub returns-clause-grounded : goal.returns-clause-grounded
-returns-clause-grounded g c = c.work_out.ensures.grounded
+returns-clause-grounded g c = c.work_out.ensures.worked.grounded
 
 pub returns-clause-evaluates : goal.returns-clause-evaluates
 returns-clause-evaluates g c = record {
   ended = λ call at.
-      if_ok_then c.work_out.result _ _ (c.work_out.ensures.evaluates.ended call (subst (λ n. Begins g.D.Delegate g.D.Cx.Cx c.args.cache.now.cx g.D.Cx.Input.PartialEq.eq call c.args.input c.args.evaluation.now.root_depth.0 n c.args.evaluation.now.limits_met c.args.cache.now.results) (sym c.consult-stored.ensures.same_starts) at))
+      if_ok_then c.work_out.result _ _ (c.work_out.ensures.worked.evaluates.ended call (subst (λ n. Begins g.D.Delegate g.D.Cx.Cx c.args.cache.now.cx g.D.Cx.Input.PartialEq.eq call c.args.input c.args.evaluation.now.root_depth.0 n c.args.evaluation.now.limits_met c.args.cache.now.results) (sym c.consult-stored.ensures.same_starts) at))
       (λ answer e. record {
         ended = e.ended;
         store = e.store;
@@ -82,14 +82,14 @@ returns-clause-evaluates g c = record {
             (compared_in_scope _ _ _ c.consult-stored.result.fate answer.result is_noop scoped c.consult-stored.ensures.consults.fate e.compared);
       });
   stopped = λ call at.
-      c.work_out.ensures.evaluates.stopped call (subst (λ n. Begins g.D.Delegate g.D.Cx.Cx c.args.cache.now.cx g.D.Cx.Input.PartialEq.eq call c.args.input c.args.evaluation.now.root_depth.0 n c.args.evaluation.now.limits_met c.args.cache.now.results) (sym c.consult-stored.ensures.same_starts) at);
+      c.work_out.ensures.worked.evaluates.stopped call (subst (λ n. Begins g.D.Delegate g.D.Cx.Cx c.args.cache.now.cx g.D.Cx.Input.PartialEq.eq call c.args.input c.args.evaluation.now.root_depth.0 n c.args.evaluation.now.limits_met c.args.cache.now.results) (sym c.consult-stored.ensures.same_starts) at);
 }
 
 pub returns-clause-stored : goal.returns-clause-stored
 returns-clause-stored g c = λ is_noop unscoped. nothing_stored c.consult-stored.result.stored _ _ c.in_default.not-Some (stored_over_none g.D.Cx.Input.PartialEq.eq c.args.evaluation.now.goals c.requires.outset.new.no_goals c.consult-stored.result.stored c.stack-stack.result.now c.stack-stack.ensures c.args.evaluation.now.provisional c.requires.outset.new.no_entries c.args.step_kind (usable g.D.Cx.Input.PartialEq.eq c.args.cache.now.results c.args.input c.args.evaluation.now.root_depth.0) (found_by _ _ hit_of c.consult-stored.result.stored _ is_noop unscoped c.consult-stored.ensures.consults.stored))
 
 pub returns-clause-recorded : goal.returns-clause-recorded
-returns-clause-recorded g c = λ records. c.work_out.ensures.spares.recorded (c.consult-stored.ensures.builder.same_noop ∙ records)
+returns-clause-recorded g c = λ records. c.work_out.ensures.worked.spares.recorded (c.consult-stored.ensures.builder.same_noop ∙ records)
 
 pub returns-clause-builder : goal.returns-clause-builder
 returns-clause-builder g c = builder_goes_on g.D.Delegate.starts g.D.Delegate.noop c.args.inspect.now c.consult-stored.new.inspect c.work_out.new.inspect c.consult-stored.ensures.builder c.work_out.ensures.builder
@@ -111,7 +111,7 @@ returns-in-Some-clause-settled g c = record {
 pub returns-clause-settled : goal.returns-clause-settled
 returns-clause-settled g c =
     let over = λ (call : Call _) (at : Begins g.D.Delegate g.D.Cx.Cx c.args.cache.now.cx g.D.Cx.Input.PartialEq.eq call c.args.input c.args.evaluation.now.root_depth.0 (g.D.Delegate.starts c.args.inspect.now) c.args.evaluation.now.limits_met c.args.cache.now.results) (needs : CallNeedsTwoRuns g.D.Delegate g.D.Cx.Cx c.args.cache.now.cx call (g.D.Delegate.noop c.args.inspect.now)) (settled : IsSettledStore g.D.Delegate g.D.Cx.Cx g.D.Cx.Input.PartialEq.eq c.args.cache.now.cx call.goals c.args.cache.now.nodes c.args.cache.now.results).
-    c.work_out.ensures.settled
+    c.work_out.ensures.worked.settled
     (c.consult-stored.ensures.consults.fate ∙ stored_unless _ _ _ needs.needs.unrecorded (begins_unscoped g.D.Delegate g.D.Cx.Cx c.args.cache.now.cx call _ _ _ _ _ needs at.outset))
     (top_is_not_lone g.D.Delegate g.D.Cx.Cx c.args.cache.now.cx g.D.Cx.Input.PartialEq.eq call _ c.args.cache.now.results c.args.input c.args.evaluation.now.root_depth.0 _ _ needs settled.settled.require at.outset
     (none_found hit_of c.consult-stored.result.stored _ c.in_default.not-Some
