@@ -1,5 +1,5 @@
 -- What a call does with goals, cache and frames: one turn after another, each of which is a move, after which nodes are let go.
-use Rattle.std.specs.Prelude.{◌≡◌, ◌≤◌, ◌+◌, ◌∷◌, ◌||◌, ℕ, Bool, true, [], List, None, Some, Result, Ok, Err, IfOk}
+use Rattle.std.specs.Prelude.{◌≡◌, ◌≤◌, ◌+◌, ◌∷◌, ◌||◌, ℕ, Bool, true, [], List, None, Some, Result, Ok, Err}
 use Rattle.std.specs.Option.{is_none}
 use Rattle.run_records.specs.declared.runs.Fate.{Fate}
 use Rattle.search_context.specs.declared.context.Answer.{Answer}
@@ -7,7 +7,6 @@ use Rattle.search_context.specs.declared.context.Reply.TheVariants as reply
 use Rattle.search_ends.specs.Words.{RunEnds}
 use Rattle.search_graph.specs.Below.{AreRuns, Begin, Cache, CacheNode, Call, CountsOne, CxOf, DelegateOf, Done, Evaluate, Fault, fates_of, Finished, HasStepped, IsReplyTo, IsStepFault, KeepsCache, KeepsNodes, Memory, Next, NotesCandidate, OpenGoal, PathKind, Pushes, Received, Request, Requests, Step, StopsWith, verdicts}
 use Rattle.search_questions.specs.Words.{AskingLeadsTo, LetsGo, LetsGoAtEnd, question_depth}
-use Rattle.between_moves.specs.Evaluations.{Moves}
 use Rattle.search_state.specs.declared.evaluation.Evaluation.{Evaluation}
 
 module _ {D C V P F I R A T : Type 0} (G : DelegateOf D C V P F I R A T) (X : CxOf C I R A T) (same : I → I → Bool) (same_result : R → R → Bool) (noop : Bool) where

@@ -1,7 +1,7 @@
 -- What a turn of the loop comes to, which is a move after which nodes may be let go.
-use Rattle.std.specs.Prelude.{◌≡◌, ◌≤◌, ℕ, Bool, length, List, []}
+use Rattle.std.specs.Prelude.{◌≡◌, ◌≤◌, Bool, length, List, []}
 use Rattle.graph_nodes.specs.Collected.{StayBefore}
-use Rattle.search_graph.specs.Below.{AreFrom, Cache, ChangesNewest, CxOf, DelegateOf, fates_of, Finished, HasReply, HaveExpected, IsJustifiedNext, IsNew, IsRightFor, KeepsFirst, KeepsResults, Next, Received, Step, OpenGoal, verdicts}
+use Rattle.search_graph.specs.Below.{AreFrom, Cache, ChangesNewest, CxOf, DelegateOf, fates_of, Finished, IsJustifiedNext, IsNew, IsRightFor, KeepsFirst, KeepsResults, Next, Step, OpenGoal, verdicts}
 use Rattle.search_state.specs.Drafts.{AreNotedNodes, HasNoDrafts, LeavesReached}
 use Rattle.search_state.specs.declared.evaluation.Evaluation.{Evaluation}
 

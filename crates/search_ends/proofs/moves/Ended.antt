@@ -19,64 +19,67 @@ use Rattle.search_state.proofs.nodes.Noting.{noted_same}
 use Rattle.search_state.specs.Drafts.{KeepsNoted}
 use Rattle.search_state.specs.declared.evaluation.Evaluation.{Evaluation}
 
-module _ {D C V P F I R A T : Type 0} (G : DelegateOf D C V P F I R A T) (X : CxOf C I R A T) (same : I → I → Bool) (same_result : R → R → Bool) (outcome : R) (old : Cache C I R A T) (before : Evaluation D C V P F I R A T) (starts : ℕ) where
+-- a rerun notes nothing
+rerun_noted :
+    {D C V P F I R A T : Type 0} {G : DelegateOf D C V P F I R A T} (same : I → I → Bool) {old new : Cache C I R A T} {before after : Evaluation D C V P F I R A T} {starts later : ℕ}
+    → RerunKeeps G old before starts new after later → KeepsNoted same old before.drafts new after.drafts
+rerun_noted {C = C} {I = I} {R = R} {A = A} {T = T} same {old} {new} {before} {after} keeps =
+    let same_results = ap (λ (cache : Cache C I R A T). cache.results) keeps.cache in
+    noted_same same old new before.drafts after.drafts (ap (λ a. a.drafts) keeps.rest) keeps.kept same_results (KeepsResults-same same old.results new.results same_results)
+
+module _ {D C V P F I R A T : Type 0} {G : DelegateOf D C V P F I R A T} {X : CxOf C I R A T} {same : I → I → Bool} {same_result : R → R → Bool} {outcome : R} {old : Cache C I R A T} {before : Evaluation D C V P F I R A T} {starts : ℕ} where
   -- ---- where the end leads
 
   pub ended_leads :
-      (result : Result (Next R) (Fault I R)) (new : Cache C I R A T) (after : Evaluation D C V P F I R A T) (later : ℕ) → RunEnds G X same same_result outcome old before starts result new after later
+      {result : Result (Next R) (Fault I R)} {new : Cache C I R A T} {after : Evaluation D C V P F I R A T} {later : ℕ} → RunEnds G X same same_result outcome old before starts result new after later
       → IfOk result (λ next. RunLeads G X same same_result outcome old before next new after)
-  ended_leads result new after later (EndedDone entry run reason _ _ _ comes pop) =
+  ended_leads (EndedDone entry run reason result new after comes pop) =
       if_ok_then result _ _ pop.popped (λ next pops. IsDone entry run reason comes pops (ap (λ (a : Evaluation D C V P F I R A T). a.limits_met) pop.rest))
-  ended_leads result new after later (EndedAtLimit entry run _ _ _ comes pop) =
+  ended_leads (EndedAtLimit entry run result new after comes pop) =
       if_ok_then result _ _ pop.popped (λ next pops. HadMostRuns entry run comes pops (ap (λ (a : Evaluation D C V P F I R A T). a.limits_met) pop.rest))
-  ended_leads result new after later (RanAgain entry run _ _ _ comes keeps reran counted) = IsRunAgain entry run comes reran refl (ap (λ (a : Evaluation D C V P F I R A T). a.limits_met) keeps.rest)
-  ended_leads result new after later (NotRunAgain entry run _ _ _ comes keeps) = tt
+  ended_leads (RanAgain entry run new after later comes keeps reran counted) = IsRunAgain entry run comes reran refl (ap (λ (a : Evaluation D C V P F I R A T). a.limits_met) keeps.rest)
+  ended_leads (NotRunAgain entry run new after later comes keeps) = tt
 
   pub ended_right :
-      (result : Result (Next R) (Fault I R)) (new : Cache C I R A T) (after : Evaluation D C V P F I R A T) (later : ℕ) → RunEnds G X same same_result outcome old before starts result new after later
+      {result : Result (Next R) (Fault I R)} {new : Cache C I R A T} {after : Evaluation D C V P F I R A T} {later : ℕ} → RunEnds G X same same_result outcome old before starts result new after later
       → IfOk result (λ next. IsRightNext G X same old.cx before.goals next new after)
-  ended_right result new after later (EndedDone entry run reason _ _ _ comes pop) = if_ok_then result _ _ pop.popped (λ next pops. pops.right)
-  ended_right result new after later (EndedAtLimit entry run _ _ _ comes pop) = if_ok_then result _ _ pop.popped (λ next pops. pops.right)
-  ended_right result new after later (RanAgain entry run _ _ _ comes keeps reran counted) =
+  ended_right (EndedDone entry run reason result new after comes pop) = if_ok_then result _ _ pop.popped (λ next pops. pops.right)
+  ended_right (EndedAtLimit entry run result new after comes pop) = if_ok_then result _ _ pop.popped (λ next pops. pops.right)
+  ended_right (RanAgain entry run new after later comes keeps reran counted) =
       record { justified = (reran.right.justified, begin_fits (verdicts X) new.nodes (runs_of after.goals)); free = reran.right.free; ready = reran.right.ready }
-  ended_right result new after later (NotRunAgain entry run _ _ _ comes keeps) = tt
+  ended_right (NotRunAgain entry run new after later comes keeps) = tt
 
   -- ---- whether a limit is met
 
   pub ended_meets :
-      (result : Result (Next R) (Fault I R)) (new : Cache C I R A T) (after : Evaluation D C V P F I R A T) (later : ℕ) → RunEnds G X same same_result outcome old before starts result new after later
+      {result : Result (Next R) (Fault I R)} {new : Cache C I R A T} {after : Evaluation D C V P F I R A T} {later : ℕ} → RunEnds G X same same_result outcome old before starts result new after later
       → MeetsLimitAtEnd G same_result outcome before after.limits_met
-  ended_meets result new after later (EndedDone entry run reason _ _ _ comes pop) =
+  ended_meets (EndedDone entry run reason result new after comes pop) =
       record { entry = entry; run = run; end = Ok reason; comes = comes; is = ap (λ (a : Evaluation D C V P F I R A T). a.limits_met) pop.rest ∙ or_not before.limits_met }
-  ended_meets result new after later (EndedAtLimit entry run _ _ _ comes pop) =
+  ended_meets (EndedAtLimit entry run result new after comes pop) =
       record { entry = entry; run = run; end = Err AtLimit; comes = comes; is = ap (λ (a : Evaluation D C V P F I R A T). a.limits_met) pop.rest ∙ or_met before.limits_met }
-  ended_meets result new after later (RanAgain entry run _ _ _ comes keeps reran counted) =
+  ended_meets (RanAgain entry run new after later comes keeps reran counted) =
       record { entry = entry; run = run; end = Err Again; comes = comes; is = ap (λ (a : Evaluation D C V P F I R A T). a.limits_met) keeps.rest ∙ or_not before.limits_met }
-  ended_meets result new after later (NotRunAgain entry run _ _ _ comes keeps) =
+  ended_meets (NotRunAgain entry run new after later comes keeps) =
       record { entry = entry; run = run; end = Err Again; comes = comes; is = ap (λ (a : Evaluation D C V P F I R A T). a.limits_met) keeps.rest ∙ or_not before.limits_met }
 
   -- ---- what is kept, and where that fails
 
   pub ended_cache :
-      (result : Result (Next R) (Fault I R)) (new : Cache C I R A T) (after : Evaluation D C V P F I R A T) (later : ℕ) → RunEnds G X same same_result outcome old before starts result new after later → ChangesCache same before.goals old new
-  ended_cache result new after later (EndedDone entry run reason _ _ _ comes pop) = pop.cache
-  ended_cache result new after later (EndedAtLimit entry run _ _ _ comes pop) = pop.cache
-  ended_cache result new after later (RanAgain entry run _ _ _ comes keeps reran counted) = leaves_results same before.goals old new keeps.cache keeps.kept keeps.earlier
-  ended_cache result new after later (NotRunAgain entry run _ _ _ comes keeps) = leaves_results same before.goals old new keeps.cache keeps.kept keeps.earlier
-
-  rerun_noted : (new : Cache C I R A T) (after : Evaluation D C V P F I R A T) (later : ℕ) → RerunKeeps G old before starts new after later → KeepsNoted same old before.drafts new after.drafts
-  rerun_noted new after later keeps =
-      let same_results = ap (λ (cache : Cache C I R A T). cache.results) keeps.cache in
-      noted_same same old new before.drafts after.drafts (ap (λ (a : Evaluation D C V P F I R A T). a.drafts) keeps.rest) keeps.kept same_results (KeepsResults-same same old.results new.results same_results)
+      {result : Result (Next R) (Fault I R)} {new : Cache C I R A T} {after : Evaluation D C V P F I R A T} {later : ℕ} → RunEnds G X same same_result outcome old before starts result new after later → ChangesCache same before.goals old new
+  ended_cache (EndedDone entry run reason result new after comes pop) = pop.cache
+  ended_cache (EndedAtLimit entry run result new after comes pop) = pop.cache
+  ended_cache (RanAgain entry run new after later comes keeps reran counted) = leaves_results same before.goals old new keeps.cache keeps.kept keeps.earlier
+  ended_cache (NotRunAgain entry run new after later comes keeps) = leaves_results same before.goals old new keeps.cache keeps.kept keeps.earlier
 
   pub ended_stores :
-      (result : Result (Next R) (Fault I R)) (new : Cache C I R A T) (after : Evaluation D C V P F I R A T) (later : ℕ) → RunEnds G X same same_result outcome old before starts result new after later
+      {result : Result (Next R) (Fault I R)} {new : Cache C I R A T} {after : Evaluation D C V P F I R A T} {later : ℕ} → RunEnds G X same same_result outcome old before starts result new after later
       → StoresOrFails G X same old before.drafts result new after.drafts
-  ended_stores result new after later (EndedDone entry run reason _ _ _ comes pop) = record { noted = pop.noted; fails = stopped_by result _ _ (λ fault fails. fails.stores) pop.fails }
-  ended_stores result new after later (EndedAtLimit entry run _ _ _ comes pop) = record { noted = pop.noted; fails = stopped_by result _ _ (λ fault fails. fails.stores) pop.fails }
-  ended_stores result new after later (RanAgain entry run _ _ _ comes keeps reran counted) = record { noted = rerun_noted new after later keeps; fails = tt }
-  ended_stores result new after later (NotRunAgain entry run _ _ _ comes keeps) = record {
-    noted = rerun_noted new after later keeps;
+  ended_stores (EndedDone entry run reason result new after comes pop) = record { noted = pop.noted; fails = stopped_by result _ _ (λ fault fails. fails.stores) pop.fails }
+  ended_stores (EndedAtLimit entry run result new after comes pop) = record { noted = pop.noted; fails = stopped_by result _ _ (λ fault fails. fails.stores) pop.fails }
+  ended_stores (RanAgain entry run new after later comes keeps reran counted) = record { noted = rerun_noted same keeps; fails = tt }
+  ended_stores (NotRunAgain entry run new after later comes keeps) = record {
+    noted = rerun_noted same keeps;
     fails = record { caused = memory_lasts G X same new after.drafts _ refl; unstored = ap (λ (cache : Cache C I R A T). cache.results) keeps.cache };
   }
 
@@ -85,13 +88,13 @@ module _ {D C V P F I R A T : Type 0} (G : DelegateOf D C V P F I R A T) (X : Cx
   module _ (by_value : (x y : I) → same x y ≡ true → x ≡ y) (ambiguous : (r : R) (info : A) → G.ambiguity r ≡ Some info → IsNeither X.is_yes X.is_no r) (right : IsRight G X same old.cx old before) (call : Call I) (ahead : ℕ) (h : Requests G X same old.cx (Done outcome) call ahead old before starts) where
     -- ---- the newest goal had its most runs,
 
-    module _ (entry : StackEntry C I R A T) (run : Run C F I R A T) (comes : ComesToEnd G same_result outcome before entry run (Err AtLimit)) where
+    module _ {entry : StackEntry C I R A T} {run : Run C F I R A T} (comes : ComesToEnd G same_result outcome before entry run (Err AtLimit)) where
       has_most : (s : OpenGoal C F I R A T) (below : List (OpenGoal C F I R A T)) → before.goals ≡ s ∷ below → (is_in_cycle s.0.state ≡ true) × (max 1 G.FIXPOINT_STEP_LIMIT ≤ s.1.finished_runs + 1)
       has_most =
           newest_limited before.goals entry run comes.is_entry comes.is_run G.FIXPOINT_STEP_LIMIT
           (limited same_result G.initial_kind G.ambiguity G.FIXPOINT_STEP_LIMIT entry.state.provisional_result entry.state.usages run.finished_runs outcome (Err AtLimit) comes.ends refl)
 
-      module _ (result : Result (Next R) (Fault I R)) (new : Cache C I R A T) (after : Evaluation D C V P F I R A T) (pop : PopsOrFails G X same (G.fixpoint_overflow old.cx entry.input) (Some Overflow) old (record before { limits_met = true }) result new after) where
+      module _ {result : Result (Next R) (Fault I R)} {new : Cache C I R A T} {after : Evaluation D C V P F I R A T} (pop : PopsOrFails G X same (G.fixpoint_overflow old.cx entry.input) (Some Overflow) old (record before { limits_met = true }) result new after) where
         limit_leads : IfOk result (λ next. LeadsTo G X same old.cx call ahead before.goals next new after starts)
         limit_leads =
             if_ok_then result _ _ pop.popped
@@ -117,13 +120,13 @@ module _ {D C V P F I R A T : Type 0} (G : DelegateOf D C V P F I R A T) (X : Cx
 
     -- ---- or fewer, and is run again,
 
-    module _ (entry : StackEntry C I R A T) (run : Run C F I R A T) (comes : ComesToEnd G same_result outcome before entry run (Err Again)) where
+    module _ {entry : StackEntry C I R A T} {run : Run C F I R A T} (comes : ComesToEnd G same_result outcome before entry run (Err Again)) where
       has_fewer : (s : OpenGoal C F I R A T) (below : List (OpenGoal C F I R A T)) → before.goals ≡ s ∷ below → (is_in_cycle s.0.state ≡ true) × (s.1.finished_runs + 1 < max 1 G.FIXPOINT_STEP_LIMIT)
       has_fewer =
           newest_unstable before.goals entry run comes.is_entry comes.is_run G.FIXPOINT_STEP_LIMIT
           (unstable same_result G.initial_kind G.ambiguity G.FIXPOINT_STEP_LIMIT entry.state.provisional_result entry.state.usages run.finished_runs outcome (Err Again) comes.ends refl)
 
-      module _ (new : Cache C I R A T) (after : Evaluation D C V P F I R A T) (later : ℕ) (keeps : RerunKeeps G old before starts new after later) where
+      module _ {new : Cache C I R A T} {after : Evaluation D C V P F I R A T} {later : ℕ} (keeps : RerunKeeps G old before starts new after later) where
         rerun_leads : RunsAgain G X same outcome old before new after → (G.counts ≡ true → CountsOne G.last starts later) → LeadsTo G X same old.cx call ahead before.goals (Step (record { reply = Begin; node = None })) new after later
         rerun_leads reran counted =
             subst (λ a. LeadsTo G X same old.cx call ahead before.goals (Step (record { reply = Begin; node = None })) new a later) (sym keeps.rest)
@@ -146,7 +149,7 @@ module _ {D C V P F I R A T : Type 0} (G : DelegateOf D C V P F I R A T) (X : Cx
 
     -- ---- or is done
 
-    module _ (entry : StackEntry C I R A T) (run : Run C F I R A T) (reason : Option (RebaseReason C I R A T)) (comes : ComesToEnd G same_result outcome before entry run (Ok reason)) (result : Result (Next R) (Fault I R)) (new : Cache C I R A T) (after : Evaluation D C V P F I R A T) (pop : PopsOrFails G X same outcome reason old before result new after) where
+    module _ {entry : StackEntry C I R A T} {run : Run C F I R A T} {reason : Option (RebaseReason C I R A T)} (comes : ComesToEnd G same_result outcome before entry run (Ok reason)) {result : Result (Next R) (Fault I R)} {new : Cache C I R A T} {after : Evaluation D C V P F I R A T} (pop : PopsOrFails G X same outcome reason old before result new after) where
       done_leads : IfOk result (λ next. LeadsTo G X same old.cx call ahead before.goals next new after starts)
       done_leads =
           if_ok_then result _ _ pop.popped
@@ -175,17 +178,17 @@ module _ {D C V P F I R A T : Type 0} (G : DelegateOf D C V P F I R A T) (X : Cx
           (differs_definite G X old.cx call ahead outcome _ _ result before.goals (stopped_by result _ _ (λ fault fails. fails.differs) pop.fails) h.asked)
 
     pub ended_goes_on :
-        (result : Result (Next R) (Fault I R)) (new : Cache C I R A T) (after : Evaluation D C V P F I R A T) (later : ℕ) → RunEnds G X same same_result outcome old before starts result new after later
+        {result : Result (Next R) (Fault I R)} {new : Cache C I R A T} {after : Evaluation D C V P F I R A T} {later : ℕ} → RunEnds G X same same_result outcome old before starts result new after later
         → IfOk result (λ next. LeadsTo G X same old.cx call ahead before.goals next new after later)
-    ended_goes_on result new after later (EndedDone entry run reason _ _ _ comes pop) = done_leads entry run reason comes result new after pop
-    ended_goes_on result new after later (EndedAtLimit entry run _ _ _ comes pop) = limit_leads entry run comes result new after pop
-    ended_goes_on result new after later (RanAgain entry run _ _ _ comes keeps reran counted) = rerun_leads entry run comes new after later keeps reran counted
-    ended_goes_on result new after later (NotRunAgain entry run _ _ _ comes keeps) = tt
+    ended_goes_on (EndedDone entry run reason result new after comes pop) = done_leads comes pop
+    ended_goes_on (EndedAtLimit entry run result new after comes pop) = limit_leads comes pop
+    ended_goes_on (RanAgain entry run new after later comes keeps reran counted) = rerun_leads comes keeps reran counted
+    ended_goes_on (NotRunAgain entry run new after later comes keeps) = tt
 
     pub ended_stops :
-        (result : Result (Next R) (Fault I R)) (new : Cache C I R A T) (after : Evaluation D C V P F I R A T) (later : ℕ) → RunEnds G X same same_result outcome old before starts result new after later
+        {result : Result (Next R) (Fault I R)} {new : Cache C I R A T} {after : Evaluation D C V P F I R A T} {later : ℕ} → RunEnds G X same same_result outcome old before starts result new after later
         → IfErr result (λ fault. StopsWith G X same old.cx call fault new after later)
-    ended_stops result new after later (EndedDone entry run reason _ _ _ comes pop) = done_stops entry run reason comes result new after pop
-    ended_stops result new after later (EndedAtLimit entry run _ _ _ comes pop) = limit_stops entry run comes result new after pop
-    ended_stops result new after later (RanAgain entry run _ _ _ comes keeps reran counted) = tt
-    ended_stops result new after later (NotRunAgain entry run _ _ _ comes keeps) = rerun_stops entry run comes new after later keeps
+    ended_stops (EndedDone entry run reason result new after comes pop) = done_stops comes pop
+    ended_stops (EndedAtLimit entry run result new after comes pop) = limit_stops comes pop
+    ended_stops (RanAgain entry run new after later comes keeps reran counted) = tt
+    ended_stops (NotRunAgain entry run new after later comes keeps) = rerun_stops comes keeps

@@ -1,5 +1,5 @@
 -- What follows of a turn, which is a move after which nodes are let go: the same as of the move.
-use Rattle.std.proofs.Common.{◌≡◌, ◌≢◌, ◌∙◌, ℕ, Bool, false, List, None, Result, Ok, Err, IfOk, IfErr, OnErr, OnOk, refl, sym, ap, subst}
+use Rattle.std.proofs.Common.{◌≡◌, ◌≢◌, ◌∙◌, ℕ, Bool, false, None, Result, IfOk, IfErr, OnErr, OnOk, refl, sym, ap, subst}
 use Rattle.between_moves.specs.Settled.{IsSettledStore, Settles, SettlesNext}
 use Rattle.search_graph.proofs.ran.Laws.{AreLaws}
 use Rattle.search_graph.proofs.ran.Moves.{advanced_cache, advanced_goals, advanced_lasts, advanced_leads, advanced_noted, advanced_right, advanced_stops}
@@ -16,142 +16,142 @@ use Rattle.graph_nodes.specs.Collected.{StayBefore}
 use Rattle.search_state.specs.Drafts.{AreNotedNodes, LeavesReached}
 use Rattle.search_state.specs.declared.evaluation.Evaluation.{Evaluation}
 
-module _ {D C V P F I R A T : Type 0} (G : DelegateOf D C V P F I R A T) (X : CxOf C I R A T) (same : I → I → Bool) (same_result : R → R → Bool) (noop : Bool) (received : Received R) (old : Cache C I R A T) (e : Evaluation D C V P F I R A T) (starts : ℕ) where
+module _ {D C V P F I R A T : Type 0} {G : DelegateOf D C V P F I R A T} {X : CxOf C I R A T} {same : I → I → Bool} {same_result : R → R → Bool} {noop : Bool} {received : Received R} {old : Cache C I R A T} {e : Evaluation D C V P F I R A T} {starts : ℕ} where
   -- ---- the call
 
   module _ (laws : AreLaws G X same same_result) (right : IsRightFor G X same old.cx received old e) where
     pub turned_leads :
         (call : Call I) → Awaits G X same old.cx call received old e starts
-        → (result : Result (Next R) (Fault I R)) (new : Cache C I R A T) (after : Evaluation D C V P F I R A T) (later : ℕ) → Turned G X same same_result noop received old e starts result new after later
+        → {result : Result (Next R) (Fault I R)} {new : Cache C I R A T} {after : Evaluation D C V P F I R A T} {later : ℕ} → Turned G X same same_result noop received old e starts result new after later
         → IfOk result (λ next. LeadsTo G X same old.cx call (work_left G X old.cx e.goals) e.goals next new after later)
-    turned_leads call h result new after later (GoesOn given mid _ between _ _ advanced goes is first stored) =
-        turn_leads G X same old.cx between after mid new given goes is call _ e.goals later (advanced_leads G X same same_result noop received old e starts laws right call h _ mid between later advanced)
-    turned_leads call h result new after later (Answered answer mid _ _ _ advanced goes) =
-        end_leads G X same old.cx after after mid new answer goes call _ e.goals later (advanced_leads G X same same_result noop received old e starts laws right call h _ mid after later advanced)
-    turned_leads call h result new after later (NotAnswered answer _ _ _ advanced) = tt
-    turned_leads call h result new after later (Failed fault mid _ between _ _ advanced goes is) = tt
-    turned_leads call h result new after later (FailedForGood fault _ between _ _ advanced is) = tt
+    turned_leads call h (GoesOn given mid new between after later advanced goes is first stored) =
+        turn_leads G X same old.cx between after mid new given goes is call _ e.goals later (advanced_leads laws right call h advanced)
+    turned_leads call h (Answered answer mid new after later advanced goes) =
+        end_leads G X same old.cx after after mid new answer goes call _ e.goals later (advanced_leads laws right call h advanced)
+    turned_leads call h (NotAnswered answer new after later advanced) = tt
+    turned_leads call h (Failed fault mid new between after later advanced goes is) = tt
+    turned_leads call h (FailedForGood fault new between after later advanced is) = tt
 
     pub turned_stops :
         (call : Call I) → Awaits G X same old.cx call received old e starts
-        → (result : Result (Next R) (Fault I R)) (new : Cache C I R A T) (after : Evaluation D C V P F I R A T) (later : ℕ) → Turned G X same same_result noop received old e starts result new after later
+        → {result : Result (Next R) (Fault I R)} {new : Cache C I R A T} {after : Evaluation D C V P F I R A T} {later : ℕ} → Turned G X same same_result noop received old e starts result new after later
         → IfErr result (λ fault. StopsWith G X same old.cx call fault new after later)
-    turned_stops call h result new after later (GoesOn given mid _ between _ _ advanced goes is first stored) = tt
-    turned_stops call h result new after later (Answered answer mid _ _ _ advanced goes) = tt
-    turned_stops call h result new after later (NotAnswered answer _ _ _ advanced) =
-        end_stops G X same old.cx after after new new answer call _ e.goals later (advanced_leads G X same same_result noop received old e starts laws right call h _ new after later advanced)
-    turned_stops call h result new after later (Failed fault mid _ between _ _ advanced goes is) =
-        fault_stops G X same old.cx between after mid new call fault later goes.rest is (advanced_stops G X same same_result noop received old e starts laws right call h _ mid between later advanced)
-    turned_stops call h result new after later (FailedForGood fault _ between _ _ advanced is) =
-        memory_stops G X same old.cx between after new new call fault later refl is (advanced_stops G X same same_result noop received old e starts laws right call h _ new between later advanced)
+    turned_stops call h (GoesOn given mid new between after later advanced goes is first stored) = tt
+    turned_stops call h (Answered answer mid new after later advanced goes) = tt
+    turned_stops call h (NotAnswered answer new after later advanced) =
+        end_stops G X same old.cx after after new new answer call _ e.goals later (advanced_leads laws right call h advanced)
+    turned_stops call h (Failed fault mid new between after later advanced goes is) =
+        fault_stops G X same old.cx between after mid new call fault later goes.rest is (advanced_stops laws right call h advanced)
+    turned_stops call h (FailedForGood fault new between after later advanced is) =
+        memory_stops G X same old.cx between after new new call fault later refl is (advanced_stops laws right call h advanced)
 
     -- ---- all is right, and a fault has its cause
 
     pub turned_right :
-        (result : Result (Next R) (Fault I R)) (new : Cache C I R A T) (after : Evaluation D C V P F I R A T) (later : ℕ) → Turned G X same same_result noop received old e starts result new after later
+        {result : Result (Next R) (Fault I R)} {new : Cache C I R A T} {after : Evaluation D C V P F I R A T} {later : ℕ} → Turned G X same same_result noop received old e starts result new after later
         → IfOk result (λ next. IsRightTurn G X same old.cx e.goals next new after)
-    turned_right result new after later (GoesOn given mid _ between _ _ advanced goes is first stored) =
-        turn_right G X same old.cx between after mid new given goes is e.goals (advanced_right G X same same_result noop received old e starts laws right _ mid between later advanced)
-    turned_right result new after later (Answered answer mid _ _ _ advanced goes) =
-        end_right G X same old.cx after after mid new answer goes e.goals (advanced_right G X same same_result noop received old e starts laws right _ mid after later advanced)
-    turned_right result new after later (NotAnswered answer _ _ _ advanced) = tt
-    turned_right result new after later (Failed fault mid _ between _ _ advanced goes is) = tt
-    turned_right result new after later (FailedForGood fault _ between _ _ advanced is) = tt
+    turned_right (GoesOn given mid new between after later advanced goes is first stored) =
+        turn_right G X same old.cx between after mid new given goes is e.goals (advanced_right laws right advanced)
+    turned_right (Answered answer mid new after later advanced goes) =
+        end_right G X same old.cx after after mid new answer goes e.goals (advanced_right laws right advanced)
+    turned_right (NotAnswered answer new after later advanced) = tt
+    turned_right (Failed fault mid new between after later advanced goes is) = tt
+    turned_right (FailedForGood fault new between after later advanced is) = tt
 
     pub turned_caused :
         (call : Call I) → IsWaiting G X old.cx call received.reply e.goals starts e.limits_met
-        → (result : Result (Next R) (Fault I R)) (new : Cache C I R A T) (after : Evaluation D C V P F I R A T) (later : ℕ) → Turned G X same same_result noop received old e starts result new after later
+        → {result : Result (Next R) (Fault I R)} {new : Cache C I R A T} {after : Evaluation D C V P F I R A T} {later : ℕ} → Turned G X same same_result noop received old e starts result new after later
         → IfErr result (IsCaused G X same new)
-    turned_caused call waiting result new after later (GoesOn given mid _ between _ _ advanced goes is first stored) = tt
-    turned_caused call waiting result new after later (Answered answer mid _ _ _ advanced goes) = tt
-    turned_caused call waiting result new after later (NotAnswered answer _ _ _ advanced) = OutOfMemory refl
-    turned_caused call waiting result new after later (Failed fault mid _ between _ _ advanced goes is) =
-        cause_stays_at_end G X same between mid new None goes fault (advanced_lasts G X same same_result noop received old e starts laws right call waiting _ mid between later advanced)
-    turned_caused call waiting result new after later (FailedForGood fault _ between _ _ advanced is) = OutOfMemory refl
+    turned_caused call waiting (GoesOn given mid new between after later advanced goes is first stored) = tt
+    turned_caused call waiting (Answered answer mid new after later advanced goes) = tt
+    turned_caused call waiting (NotAnswered answer new after later advanced) = OutOfMemory refl
+    turned_caused call waiting (Failed fault mid new between after later advanced goes is) =
+        cause_stays_at_end G X same between mid new None goes fault (advanced_lasts laws right call waiting advanced)
+    turned_caused call waiting (FailedForGood fault new between after later advanced is) = OutOfMemory refl
 
     -- ---- where two runs of a goal are enough
 
     module _ (call : Call I) (h : Awaits G X same old.cx call received old e starts) (needs : CallNeedsTwoRuns G X old.cx call noop) (s : Settles G X same old.cx call received old e) where
       pub turned_unmet :
-          (result : Result (Next R) (Fault I R)) (new : Cache C I R A T) (after : Evaluation D C V P F I R A T) (later : ℕ) → Turned G X same same_result noop received old e starts result new after later → after.limits_met ≡ false
-      turned_unmet result new after later (GoesOn given mid _ between _ _ advanced goes is first stored) =
-          ap (λ (a : Evaluation D C V P F I R A T). a.limits_met) is ∙ advanced_unmet G X same same_result noop received old e starts laws right call h needs s _ mid between later advanced
-      turned_unmet result new after later (Answered answer mid _ _ _ advanced goes) = advanced_unmet G X same same_result noop received old e starts laws right call h needs s _ mid after later advanced
-      turned_unmet result new after later (NotAnswered answer _ _ _ advanced) = advanced_unmet G X same same_result noop received old e starts laws right call h needs s _ new after later advanced
-      turned_unmet result new after later (Failed fault mid _ between _ _ advanced goes is) =
-          ap (λ (a : Evaluation D C V P F I R A T). a.limits_met) is ∙ advanced_unmet G X same same_result noop received old e starts laws right call h needs s _ mid between later advanced
-      turned_unmet result new after later (FailedForGood fault _ between _ _ advanced is) =
-          ap (λ (a : Evaluation D C V P F I R A T). a.limits_met) is ∙ advanced_unmet G X same same_result noop received old e starts laws right call h needs s _ new between later advanced
+          {result : Result (Next R) (Fault I R)} {new : Cache C I R A T} {after : Evaluation D C V P F I R A T} {later : ℕ} → Turned G X same same_result noop received old e starts result new after later → after.limits_met ≡ false
+      turned_unmet (GoesOn given mid new between after later advanced goes is first stored) =
+          ap (λ (a : Evaluation D C V P F I R A T). a.limits_met) is ∙ advanced_unmet laws right call h needs s advanced
+      turned_unmet (Answered answer mid new after later advanced goes) = advanced_unmet laws right call h needs s advanced
+      turned_unmet (NotAnswered answer new after later advanced) = advanced_unmet laws right call h needs s advanced
+      turned_unmet (Failed fault mid new between after later advanced goes is) =
+          ap (λ (a : Evaluation D C V P F I R A T). a.limits_met) is ∙ advanced_unmet laws right call h needs s advanced
+      turned_unmet (FailedForGood fault new between after later advanced is) =
+          ap (λ (a : Evaluation D C V P F I R A T). a.limits_met) is ∙ advanced_unmet laws right call h needs s advanced
 
       pub turned_settles :
-          (result : Result (Next R) (Fault I R)) (new : Cache C I R A T) (after : Evaluation D C V P F I R A T) (later : ℕ) → Turned G X same same_result noop received old e starts result new after later
+          {result : Result (Next R) (Fault I R)} {new : Cache C I R A T} {after : Evaluation D C V P F I R A T} {later : ℕ} → Turned G X same same_result noop received old e starts result new after later
           → IfOk result (λ next. SettlesNext G X same old.cx call next new after)
-      turned_settles result new after later (GoesOn given mid _ between _ _ advanced goes is first stored) =
-          turn_settles G X same old.cx between after mid new given goes is call (advanced_settles G X same same_result noop received old e starts laws right call h needs s _ mid between later advanced)
-      turned_settles result new after later (Answered answer mid _ _ _ advanced goes) =
-          store_stays_at_end G X same old.cx after mid new answer.node goes call.goals (advanced_settles G X same same_result noop received old e starts laws right call h needs s _ mid after later advanced)
-      turned_settles result new after later (NotAnswered answer _ _ _ advanced) = tt
-      turned_settles result new after later (Failed fault mid _ between _ _ advanced goes is) = tt
-      turned_settles result new after later (FailedForGood fault _ between _ _ advanced is) = tt
+      turned_settles (GoesOn given mid new between after later advanced goes is first stored) =
+          turn_settles G X same old.cx between after mid new given goes is call (advanced_settles laws right call h needs s advanced)
+      turned_settles (Answered answer mid new after later advanced goes) =
+          store_stays_at_end G X same old.cx after mid new answer.node goes call.goals (advanced_settles laws right call h needs s advanced)
+      turned_settles (NotAnswered answer new after later advanced) = tt
+      turned_settles (Failed fault mid new between after later advanced goes is) = tt
+      turned_settles (FailedForGood fault new between after later advanced is) = tt
 
       pub turned_leaves :
-          (result : Result (Next R) (Fault I R)) (new : Cache C I R A T) (after : Evaluation D C V P F I R A T) (later : ℕ) → Turned G X same same_result noop received old e starts result new after later
+          {result : Result (Next R) (Fault I R)} {new : Cache C I R A T} {after : Evaluation D C V P F I R A T} {later : ℕ} → Turned G X same same_result noop received old e starts result new after later
           → OnErr result (IsSettledStore G X same old.cx call.goals new.nodes new.results)
-      turned_leaves result new after later (GoesOn given mid _ between _ _ advanced goes is first stored) = tt
-      turned_leaves result new after later (Answered answer mid _ _ _ advanced goes) = tt
-      turned_leaves result new after later (NotAnswered answer _ _ _ advanced) = advanced_settles G X same same_result noop received old e starts laws right call h needs s _ new after later advanced
-      turned_leaves result new after later (Failed fault mid _ between _ _ advanced goes is) =
-          store_stays_at_end G X same old.cx between mid new None goes call.goals (advanced_leaves G X same same_result noop received old e starts laws right call h needs s _ mid between later advanced)
-      turned_leaves result new after later (FailedForGood fault _ between _ _ advanced is) = advanced_leaves G X same same_result noop received old e starts laws right call h needs s _ new between later advanced
+      turned_leaves (GoesOn given mid new between after later advanced goes is first stored) = tt
+      turned_leaves (Answered answer mid new after later advanced goes) = tt
+      turned_leaves (NotAnswered answer new after later advanced) = advanced_settles laws right call h needs s advanced
+      turned_leaves (Failed fault mid new between after later advanced goes is) =
+          store_stays_at_end G X same old.cx between mid new None goes call.goals (advanced_leaves laws right call h needs s advanced)
+      turned_leaves (FailedForGood fault new between after later advanced is) = advanced_leaves laws right call h needs s advanced
 
   -- ---- goals, cache and drafts
 
   pub turned_goals :
-      (result : Result (Next R) (Fault I R)) (new : Cache C I R A T) (after : Evaluation D C V P F I R A T) (later : ℕ) → Turned G X same same_result noop received old e starts result new after later
+      {result : Result (Next R) (Fault I R)} {new : Cache C I R A T} {after : Evaluation D C V P F I R A T} {later : ℕ} → Turned G X same same_result noop received old e starts result new after later
       → OnOk result (MovesGoals same (IsFated (G.scoped old.cx) (G.script old.cx) same old.results noop) old.nodes e.goals after.goals)
-  turned_goals result new after later (GoesOn given mid _ between _ _ advanced goes is first stored) =
+  turned_goals (GoesOn given mid new between after later advanced goes is first stored) =
       subst (λ (a : Evaluation D C V P F I R A T). MovesGoals same (IsFated (G.scoped old.cx) (G.script old.cx) same old.results noop) old.nodes e.goals a.goals) (sym is)
-      (advanced_goals G X same same_result noop received old e starts _ mid between later advanced)
-  turned_goals result new after later (Answered answer mid _ _ _ advanced goes) = advanced_goals G X same same_result noop received old e starts _ mid after later advanced
-  turned_goals result new after later (NotAnswered answer _ _ _ advanced) = tt
-  turned_goals result new after later (Failed fault mid _ between _ _ advanced goes is) = tt
-  turned_goals result new after later (FailedForGood fault _ between _ _ advanced is) = tt
+      (advanced_goals advanced)
+  turned_goals (Answered answer mid new after later advanced goes) = advanced_goals advanced
+  turned_goals (NotAnswered answer new after later advanced) = tt
+  turned_goals (Failed fault mid new between after later advanced goes is) = tt
+  turned_goals (FailedForGood fault new between after later advanced is) = tt
 
   module _ (has : HasDrafts same old e) where
-    module _ (result : Result (Next R) (Fault I R)) (mid : Cache C I R A T) (between : Evaluation D C V P F I R A T) (later : ℕ) (advanced : Advanced G X same same_result noop received old e starts result mid between later) where
+    module _ {result : Result (Next R) (Fault I R)} {mid : Cache C I R A T} {between : Evaluation D C V P F I R A T} {later : ℕ} (advanced : Advanced G X same same_result noop received old e starts result mid between later) where
       -- nodes that were there before are there after a move, and what is let go after it came later
       cache_turns : (new : Cache C I R A T) → KeepsFirst between.drafts.first mid.nodes new.nodes → new ≡ record mid { nodes = new.nodes } → TurnsCache same e old new
       cache_turns new earlier rest =
-          let changes = advanced_cache G X same same_result noop received old e starts result mid between later advanced in
+          let changes = advanced_cache advanced in
           turn_keeps same e old mid new has changes.keeps changes.changes (subst (λ n. KeepsFirst n mid.nodes new.nodes) first earlier) rest
         where
           first : between.drafts.first ≡ e.drafts.first
-          first = (advanced_noted G X same same_result noop received old e starts result mid between later advanced).first
+          first = (advanced_noted advanced).first
 
       -- those nodes lead to one another alone, still, and what is noted stays so
       pub advanced_before : StayBefore between.drafts.first mid.nodes
       advanced_before =
-          let changes = advanced_cache G X same same_result noop received old e starts result mid between later advanced in
-          turn_before same e old mid mid has changes.keeps changes.changes (λ at lower. refl) refl between (advanced_noted G X same same_result noop received old e starts result mid between later advanced).first
+          let changes = advanced_cache advanced in
+          turn_before same e old mid mid has changes.keeps changes.changes (λ at lower. refl) refl between (advanced_noted advanced).first
 
       pub noted_after : AreNotedNodes same mid between.drafts
-      noted_after = (advanced_noted G X same same_result noop received old e starts result mid between later advanced).noted_are has.noted_are
+      noted_after = (advanced_noted advanced).noted_are has.noted_are
 
     pub turned_cache :
-        (result : Result (Next R) (Fault I R)) (new : Cache C I R A T) (after : Evaluation D C V P F I R A T) (later : ℕ) → Turned G X same same_result noop received old e starts result new after later → TurnsCache same e old new
-    turned_cache result new after later (GoesOn given mid _ between _ _ advanced goes is first stored) = cache_turns _ mid between later advanced new goes.earlier goes.rest
-    turned_cache result new after later (Answered answer mid _ _ _ advanced goes) = cache_turns _ mid after later advanced new goes.earlier goes.rest
-    turned_cache result new after later (NotAnswered answer _ _ _ advanced) = cache_turns _ new after later advanced new (λ at lower. refl) refl
-    turned_cache result new after later (Failed fault mid _ between _ _ advanced goes is) = cache_turns _ mid between later advanced new goes.earlier goes.rest
-    turned_cache result new after later (FailedForGood fault _ between _ _ advanced is) = cache_turns _ new between later advanced new (λ at lower. refl) refl
+        {result : Result (Next R) (Fault I R)} {new : Cache C I R A T} {after : Evaluation D C V P F I R A T} {later : ℕ} → Turned G X same same_result noop received old e starts result new after later → TurnsCache same e old new
+    turned_cache (GoesOn given mid new between after later advanced goes is first stored) = cache_turns advanced new goes.earlier goes.rest
+    turned_cache (Answered answer mid new after later advanced goes) = cache_turns advanced new goes.earlier goes.rest
+    turned_cache (NotAnswered answer new after later advanced) = cache_turns advanced new (λ at lower. refl) refl
+    turned_cache (Failed fault mid new between after later advanced goes is) = cache_turns advanced new goes.earlier goes.rest
+    turned_cache (FailedForGood fault new between after later advanced is) = cache_turns advanced new (λ at lower. refl) refl
 
     pub turned_drafts :
-        (result : Result (Next R) (Fault I R)) (new : Cache C I R A T) (after : Evaluation D C V P F I R A T) (later : ℕ) → Turned G X same same_result noop received old e starts result new after later
+        {result : Result (Next R) (Fault I R)} {new : Cache C I R A T} {after : Evaluation D C V P F I R A T} {later : ℕ} → Turned G X same same_result noop received old e starts result new after later
         → IfOk result (λ next. KeepsDrafts same e next new after)
-    turned_drafts result new after later (GoesOn given mid _ between _ _ advanced goes is first stored) =
-        let noted = advanced_noted G X same same_result noop received old e starts _ mid between later advanced in
-        let changes = advanced_cache G X same same_result noop received old e starts _ mid between later advanced in
-        let goals = advanced_goals G X same same_result noop received old e starts _ mid between later advanced in
+    turned_drafts (GoesOn given mid new between after later advanced goes is first stored) =
+        let noted = advanced_noted advanced in
+        let changes = advanced_cache advanced in
+        let goals = advanced_goals advanced in
         record {
           first = first ∙ noted.first;
           has =
@@ -159,18 +159,18 @@ module _ {D C V P F I R A T : Type 0} (G : DelegateOf D C V P F I R A T) (X : Cx
               (subst (λ (a : Evaluation D C V P F I R A T). AreFrom e.drafts.first a.goals) (sym is) (goals.stays e.drafts.first has.there has.from))
               (noted_of same new between.drafts after.drafts first stored (noted_stay G X same old.cx between mid new given.node goes (noted.noted_are has.noted_are)));
         }
-    turned_drafts result new after later (Answered answer mid _ _ _ advanced goes) =
-        record { first = (advanced_noted G X same same_result noop received old e starts _ mid after later advanced).first; has = goes.leaves }
-    turned_drafts result new after later (NotAnswered answer _ _ _ advanced) = tt
-    turned_drafts result new after later (Failed fault mid _ between _ _ advanced goes is) = tt
-    turned_drafts result new after later (FailedForGood fault _ between _ _ advanced is) = tt
+    turned_drafts (Answered answer mid new after later advanced goes) =
+        record { first = (advanced_noted advanced).first; has = goes.leaves }
+    turned_drafts (NotAnswered answer new after later advanced) = tt
+    turned_drafts (Failed fault mid new between after later advanced goes is) = tt
+    turned_drafts (FailedForGood fault new between after later advanced is) = tt
 
     pub turned_left :
-        (result : Result (Next R) (Fault I R)) (new : Cache C I R A T) (after : Evaluation D C V P F I R A T) (later : ℕ) → Turned G X same same_result noop received old e starts result new after later
+        {result : Result (Next R) (Fault I R)} {new : Cache C I R A T} {after : Evaluation D C V P F I R A T} {later : ℕ} → Turned G X same same_result noop received old e starts result new after later
         → IfErr result (λ fault. fault ≢ Memory → LeavesReached same e.drafts.first None new)
-    turned_left result new after later (GoesOn given mid _ between _ _ advanced goes is first stored) = tt
-    turned_left result new after later (Answered answer mid _ _ _ advanced goes) = tt
-    turned_left result new after later (NotAnswered answer _ _ _ advanced) = λ other. absurd (other refl)
-    turned_left result new after later (Failed fault mid _ between _ _ advanced goes is) =
-        λ other. subst (λ n. LeavesReached same n None new) (advanced_noted G X same same_result noop received old e starts _ mid between later advanced).first goes.leaves
-    turned_left result new after later (FailedForGood fault _ between _ _ advanced is) = λ other. absurd (other refl)
+    turned_left (GoesOn given mid new between after later advanced goes is first stored) = tt
+    turned_left (Answered answer mid new after later advanced goes) = tt
+    turned_left (NotAnswered answer new after later advanced) = λ other. absurd (other refl)
+    turned_left (Failed fault mid new between after later advanced goes is) =
+        λ other. subst (λ n. LeavesReached same n None new) (advanced_noted advanced).first goes.leaves
+    turned_left (FailedForGood fault new between after later advanced is) = λ other. absurd (other refl)

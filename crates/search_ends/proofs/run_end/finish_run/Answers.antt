@@ -1,4 +1,4 @@
-use Rattle.std.proofs.Common.{rules, Err, Ok, Some, ◌≡◌, true, refl, sym, ap, ap₂, subst, ◌∙◌}
+use Rattle.std.proofs.Common.{rules, Err, Ok, Some, ◌≡◌, true, sym, ap, ap₂, subst, ◌∙◌}
 use Rattle.search_ends.specs.Below.{IsEndOfRun, Memory, Overflow, Step, verdict_of, verdicts}
 use Rattle.search_ends.specs.Words.{EndedAtLimit, EndedDone, NotRunAgain, PopsOrFails, RanAgain, RunEnds}
 use Rattle.lean_runs.proofs.Verdicts.{neither_is}

@@ -14,10 +14,10 @@ advance-requires-clause-expected g c = c.requires.expected
 -- ---- nodes are let go before the next turn
 
 pub collect_drafts-requires-clause-before : goal.collect_drafts-requires-clause-before
-collect_drafts-requires-clause-before g c = advanced_before g.D.Delegate g.D.Cx.Cx g.D.Cx.Input.PartialEq.eq g.D.Cx.Result.PartialEq.eq (g.D.Delegate.noop c.args.inspect.now) c.args.received c.args.cache.now c.args.evaluation.now (g.D.Delegate.starts c.args.inspect.now) c.requires.drafts c.advance.result c.advance.new.cache c.advance.new.evaluation (g.D.Delegate.starts c.advance.new.inspect) c.advance.ensures.advanced
+collect_drafts-requires-clause-before g c = advanced_before c.requires.drafts c.advance.ensures.advanced
 
 pub collect_drafts-requires-clause-noted : goal.collect_drafts-requires-clause-noted
-collect_drafts-requires-clause-noted g c = noted_after g.D.Delegate g.D.Cx.Cx g.D.Cx.Input.PartialEq.eq g.D.Cx.Result.PartialEq.eq (g.D.Delegate.noop c.args.inspect.now) c.args.received c.args.cache.now c.args.evaluation.now (g.D.Delegate.starts c.args.inspect.now) c.requires.drafts c.advance.result c.advance.new.cache c.advance.new.evaluation (g.D.Delegate.starts c.advance.new.inspect) c.advance.ensures.advanced
+collect_drafts-requires-clause-noted g c = noted_after c.requires.drafts c.advance.ensures.advanced
 
 pub returns-in-Ok-Step-clause-turned : goal.returns-in-Ok-Step-clause-turned
 returns-in-Ok-Step-clause-turned g c =
@@ -27,10 +27,10 @@ returns-in-Ok-Step-clause-turned g c =
 -- ---- and once the call has its answer
 
 pub collect_at_end-requires-clause-before : goal.collect_at_end-requires-clause-before
-collect_at_end-requires-clause-before g c = advanced_before g.D.Delegate g.D.Cx.Cx g.D.Cx.Input.PartialEq.eq g.D.Cx.Result.PartialEq.eq (g.D.Delegate.noop c.args.inspect.now) c.args.received c.args.cache.now c.args.evaluation.now (g.D.Delegate.starts c.args.inspect.now) c.requires.drafts c.advance.result c.advance.new.cache c.advance.new.evaluation (g.D.Delegate.starts c.advance.new.inspect) c.advance.ensures.advanced
+collect_at_end-requires-clause-before g c = advanced_before c.requires.drafts c.advance.ensures.advanced
 
 pub collect_at_end-requires-clause-noted : goal.collect_at_end-requires-clause-noted
-collect_at_end-requires-clause-noted g c = noted_after g.D.Delegate g.D.Cx.Cx g.D.Cx.Input.PartialEq.eq g.D.Cx.Result.PartialEq.eq (g.D.Delegate.noop c.args.inspect.now) c.args.received c.args.cache.now c.args.evaluation.now (g.D.Delegate.starts c.args.inspect.now) c.requires.drafts c.advance.result c.advance.new.cache c.advance.new.evaluation (g.D.Delegate.starts c.advance.new.inspect) c.advance.ensures.advanced
+collect_at_end-requires-clause-noted g c = noted_after c.requires.drafts c.advance.ensures.advanced
 
 pub returns-in_ok-collect_at_end-in-Ok-Finished-clause-turned : goal.returns-in_ok-collect_at_end-in-Ok-Finished-clause-turned
 returns-in_ok-collect_at_end-in-Ok-Finished-clause-turned g c =
@@ -46,10 +46,10 @@ returns-in_err-collect_at_end-in-Ok-Finished-clause-turned g c =
 -- ---- and after a fault
 
 pub give_up-requires-clause-before : goal.give_up-requires-clause-before
-give_up-requires-clause-before g c = advanced_before g.D.Delegate g.D.Cx.Cx g.D.Cx.Input.PartialEq.eq g.D.Cx.Result.PartialEq.eq (g.D.Delegate.noop c.args.inspect.now) c.args.received c.args.cache.now c.args.evaluation.now (g.D.Delegate.starts c.args.inspect.now) c.requires.drafts c.advance.result c.advance.new.cache c.advance.new.evaluation (g.D.Delegate.starts c.advance.new.inspect) c.advance.ensures.advanced
+give_up-requires-clause-before g c = advanced_before c.requires.drafts c.advance.ensures.advanced
 
 pub give_up-requires-clause-noted : goal.give_up-requires-clause-noted
-give_up-requires-clause-noted g c = noted_after g.D.Delegate g.D.Cx.Cx g.D.Cx.Input.PartialEq.eq g.D.Cx.Result.PartialEq.eq (g.D.Delegate.noop c.args.inspect.now) c.args.received c.args.cache.now c.args.evaluation.now (g.D.Delegate.starts c.args.inspect.now) c.requires.drafts c.advance.result c.advance.new.cache c.advance.new.evaluation (g.D.Delegate.starts c.advance.new.inspect) c.advance.ensures.advanced
+give_up-requires-clause-noted g c = noted_after c.requires.drafts c.advance.ensures.advanced
 
 pub returns-in_ok-give_up-in-Err-clause-turned : goal.returns-in_ok-give_up-in-Err-clause-turned
 returns-in_ok-give_up-in-Err-clause-turned g c =
