@@ -122,7 +122,7 @@ module _ {D C V P F I R A T : Type 0} {G : DelegateOf D C V P F I R A T} {X : Cx
     keeps = appending_keeps same e.goals old (record old { nodes = nodes }) refl nodes_kept;
     drafts = (
       begins_drafts X same (G.script old.cx) old (record old { nodes = nodes }) e (record e { goals = goals }) outset.no_drafts are_runs sound refl nodes_kept refl
-      (stay_pushed G X old.cx old.nodes e.goals goals goal kind e.root_depth nodes pushes (length old.nodes) (omega arith) (subst (AreFrom (length old.nodes)) (sym outset.new.no_goals) tt)),
+          (stay_pushed G X old.cx old.nodes e.goals goals goal kind e.root_depth nodes pushes (length old.nodes) (omega arith) (subst (AreFrom (length old.nodes)) (sym outset.new.no_goals) tt)),
       outset.no_drafts.first,
     );
   }

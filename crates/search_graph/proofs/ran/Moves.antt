@@ -65,8 +65,8 @@ module _ {D C V P F I R A T : Type 0} {G : DelegateOf D C V P F I R A T} {X : Cx
     advanced_leads call h (Asked kind goal goals given new after later stepped asks keeps) =
         let ready = stepped_ready G X old.cx same (G.script old.cx) old.nodes e.provisional received (Evaluate kind goal) e.goals goals stepped right.right.ready in
         let on =
-            asked_goes_on G X same old.cx kind goal old (record e { goals = goals }) starts laws.divides laws.by_value laws.own (laws.initial_sort old.cx) noop given new after later asks ready call _
-            (requests G X same old.cx old e received old.cx refl (Evaluate kind goal) goals stepped starts starts refl (Evaluate kind goal) refl right call h) in
+        asked_goes_on G X same old.cx kind goal old (record e { goals = goals }) starts laws.divides laws.by_value laws.own (laws.initial_sort old.cx) noop given new after later asks ready call _
+        (requests G X same old.cx old e received old.cx refl (Evaluate kind goal) goals stepped starts starts refl (Evaluate kind goal) refl right call h) in
         record { leads = on.goes_on; answers = on.answers; remembered = tt; compared = tt }
     advanced_leads call h (NotAsked kind goal goals new after later stepped stops keeps) = tt
     advanced_leads call h (RunEnded outcome goals result new after later stepped runs ends) =
@@ -105,9 +105,9 @@ module _ {D C V P F I R A T : Type 0} {G : DelegateOf D C V P F I R A T} {X : Cx
     advanced_right (FrameFailed fault goals failed) = tt
     advanced_right (Asked kind goal goals given new after later stepped asks keeps) =
         let on =
-            asked_right G X same old.cx kind goal old (record e { goals = goals }) starts laws.stack_overflow (laws.initial_sort old.cx) noop given new after later asks
-            (step_asks_for G X old.cx received e.goals goals old.cx (Evaluate kind goal) stepped kind goal refl)
-            (stepped_right G X same old.cx old e received old.cx refl (Evaluate kind goal) goals stepped refl right) in
+        asked_right G X same old.cx kind goal old (record e { goals = goals }) starts laws.stack_overflow (laws.initial_sort old.cx) noop given new after later asks
+        (step_asks_for G X old.cx received e.goals goals old.cx (Evaluate kind goal) stepped kind goal refl)
+        (stepped_right G X same old.cx old e received old.cx refl (Evaluate kind goal) goals stepped refl right) in
         record { justified = (on.right.justified, on.fits); free = on.right.free; ready = on.right.ready }
     advanced_right (NotAsked kind goal goals new after later stepped stops keeps) = tt
     advanced_right (RunEnded outcome goals result new after later stepped runs ends) =

@@ -62,7 +62,7 @@ loop-next-smaller g c =
 pub loop-next-preserved : goal.loop-next-preserved
 loop-next-preserved g c = record {
   ran = Then c.loop-next.received c.loop-next.cache c.loop-next.evaluation (g.D.Delegate.starts c.loop-next.inspect) (Ok (Step c.in-Step.next)) c.take_turn.new.cache c.take_turn.new.evaluation (g.D.Delegate.starts c.take_turn.new.inspect) c.loop-next.invariant.ran
-    (subst (λ b. Turned g.D.Delegate g.D.Cx.Cx g.D.Cx.Input.PartialEq.eq g.D.Cx.Result.PartialEq.eq b c.loop-next.received c.loop-next.cache c.loop-next.evaluation (g.D.Delegate.starts c.loop-next.inspect) (Ok (Step c.in-Step.next)) c.take_turn.new.cache c.take_turn.new.evaluation (g.D.Delegate.starts c.take_turn.new.inspect)) c.loop-next.invariant.builder.same_noop (rw c.in-Step.is at c.in_ok-next.ensures.turned));
+      (subst (λ b. Turned g.D.Delegate g.D.Cx.Cx g.D.Cx.Input.PartialEq.eq g.D.Cx.Result.PartialEq.eq b c.loop-next.received c.loop-next.cache c.loop-next.evaluation (g.D.Delegate.starts c.loop-next.inspect) (Ok (Step c.in-Step.next)) c.take_turn.new.cache c.take_turn.new.evaluation (g.D.Delegate.starts c.take_turn.new.inspect)) c.loop-next.invariant.builder.same_noop (rw c.in-Step.is at c.in_ok-next.ensures.turned));
   builder = builder_goes_on g.D.Delegate.starts g.D.Delegate.noop c.args.inspect.now c.loop-next.inspect c.take_turn.new.inspect c.loop-next.invariant.builder c.take_turn.ensures.builder;
 }
 
