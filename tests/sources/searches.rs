@@ -5,6 +5,7 @@
 //! | `checker` | the checker, on graphs made by hand, changed at random, made by a rule, and handed out by long searches |
 //! | `validation` | stored results that are validated |
 //! | `frames` | frames that are refused memory |
+//! | `lists` | a long list of queries with faults among them |
 //! | `uses` | games, blocks that a write may reach, shapes, and subtypes |
 //!
 //! `asking` asks goals on a graph of their own, `stored` tells what is stored of a table's goals, and `handed_out` has the graphs that are handed out for them, and the
@@ -14,6 +15,7 @@ mod asking;
 mod checker;
 mod frames;
 mod handed_out;
+mod lists;
 mod stored;
 mod uses;
 mod validation;
