@@ -8,17 +8,12 @@ pub use Rattle.search_context.specs.declared.context.Fault.{Fault}
 pub use Rattle.search_context.specs.declared.context.NodeId.{NodeId}
 pub use Rattle.search_context.specs.declared.context.Request.{Request}
 pub use Rattle.search_context.specs.declared.context.Request.TheVariants.{Evaluate}
-pub use Rattle.provisional_cache.specs.Provisional.{entries_at, Lists}
-pub use Rattle.provisional_cache.specs.declared.ProvisionalCacheEntry.{ProvisionalCacheEntry}
 pub use Rattle.graph_nodes.specs.Nodes.{CacheNode, KeepsFinished, KeepsNodes}
 pub use Rattle.global_cache.specs.Cache.{Cache}
-pub use Rattle.global_cache.specs.Store.{KeepsResults, Store}
-pub use Rattle.global_cache.specs.declared.results.StoredResult.{StoredResult}
+pub use Rattle.global_cache.specs.Store.{KeepsResults}
 pub use Rattle.goal_changes.specs.declared.Next.{Next}
 pub use Rattle.run_records.specs.declared.runs.Received.{Received}
 pub use Rattle.goal_changes.specs.OpenGoal.{OpenGoal}
-pub use Rattle.search_rules.specs.Calls.{Call}
 pub use Rattle.search_rules.specs.Fates.{ChangesNewest}
-pub use Rattle.search_rules.specs.Free.{AreFree}
 pub use Rattle.search_rules.specs.Runs.{KeepsBut}
 pub use Rattle.search_rules.specs.Runs.{KeepsEarlier, StayFrom}

@@ -1,3 +1,2 @@
 pub mod Evaluations
-pub mod Settled
 pub mod Below

@@ -5,5 +5,4 @@
 //! | File of `specs/` | Has |
 //! |---|---|
 //! | `Evaluations` | what holds of an evaluation between two of its moves, and what the moves lead to |
-//! | `Settled` | what holds of an evaluation where two runs of a goal are enough |
 #![tactic(auto)]

@@ -9,6 +9,7 @@ use crate::solver::Solver;
 use delegate_parts::{Builder, Outcome};
 use question_lists::{ContextOf, Listed};
 use search_graph::graph::SearchGraph;
+use search_graph::law::decisive::decisive_results;
 use search_parts::context::{Fault, Verdict};
 use search_parts::global_cache::GlobalCache;
 use search_parts::path::PathKind;
@@ -46,6 +47,7 @@ impl<G: LendsGame> Solver<G> {
         ensures limits_stay { had_limits self.old ≡ true → had_limits self.new ≡ true }
         ensures same_game { solved self.new ≡ solved self.old }
     {
+        decisive_results::<GamesDelegate<G>>();
         let mut graph = SearchGraph::<GamesDelegate<G>>::new(self.alloc, depth);
         let mut builder = Builder::new(true);
         let answer = graph.evaluate_goal(

@@ -19,7 +19,7 @@ use Rattle.search_context.specs.Run.{Asked, progress_after, progress_with, Progr
 use Rattle.search_context.specs.Valid.{goal_node_of, goal_nodes_of, IsRunOfSort, IsValid}
 use Rattle.search_context.specs.declared.context.Edge.{Edge}
 use Rattle.graph_data.proofs.Lists.{AllByRecursion-append}
-use Rattle.graph_pages.specs.Checked.{AreReached, IsRightlyShown, IsShownGraph}
+use Rattle.graph_pages.specs.Checked.{AreReached, IsRightlyShown, IsShownGraph, ShowsGraph}
 use Rattle.path_kinds.specs.declared.path.PathKind.{PathKind}
 use Rattle.path_kinds.specs.declared.path.PathKind.TheVariants.{Coinductive, Inductive}
 use Rattle.graph_pages.specs.Below.{candidates_of, Goal, Maybe, names_of, No, Node, number_of, Outcome, Overflow, questions_of, Reply, Request, Rules, Verdicts, Yes}
@@ -225,16 +225,18 @@ module _ (says : Verdicts Outcome) (scripts : Goal → List (Reply Outcome) → 
   shown_named goal Maybe nodes named shown = absurd shown.is_valid
   shown_named goal Overflow nodes named shown = absurd shown.is_valid
 
-  claim_named : (goal : Goal) (came : Came) → IsNamed (names_of rules) goal → IsRightlyShown says scripts goal came → AllByRecursion (IsClaim (names_of rules)) (claims_of goal came)
+  claim_named : (goal : Goal) (came : Came) → IsNamed (names_of rules) goal → ShowsGraph says scripts goal came → AllByRecursion (IsClaim (names_of rules)) (claims_of goal came)
   claim_named goal (Graph outcome nodes) named checked = ((named, shown_named goal outcome nodes.items named checked), tt)
   claim_named goal (NoGraph outcome reason) named checked = ((named, λ k d below. absurd (omega arith)), tt)
   claim_named goal (Unchecked outcome) named checked = tt
   claim_named goal (Fault fault) named checked = tt
 
-  all_claims_named : (asked : List (Goal × Came)) → AllByRecursion (IsNamed (names_of rules)) (map (λ a. a.0) asked) → All (λ a. IsRightlyShown says scripts a.0 a.1) asked → AllByRecursion (IsClaim (names_of rules)) (flat_map (λ a. claims_of a.0 a.1) asked)
+  all_claims_named : (asked : List ((ℕ × Goal) × Came)) → AllByRecursion (IsNamed (names_of rules)) (map (λ q. q.1) (map (λ a. a.0) asked)) →
+      All (λ a. IsRightlyShown says scripts a.0 a.1) asked → AllByRecursion (IsClaim (names_of rules)) (flat_map (λ a. claims_of a.0.1 a.1) asked)
   all_claims_named [] named checked = tt
   all_claims_named (a ∷ asked) named checked =
-      AllByRecursion-append (IsClaim (names_of rules)) (claims_of a.0 a.1) (flat_map (λ b. claims_of b.0 b.1) asked) (claim_named a.0 a.1 named.0 (All-head (λ b. IsRightlyShown says scripts b.0 b.1) a asked checked))
+      AllByRecursion-append (IsClaim (names_of rules)) (claims_of a.0.1 a.1) (flat_map (λ b. claims_of b.0.1 b.1) asked)
+      (claim_named a.0.1 a.1 named.0 (All-head (λ b. IsRightlyShown says scripts b.0 b.1) a asked checked).graph)
       (all_claims_named asked named.1 (All-tail (λ b. IsRightlyShown says scripts b.0 b.1) a asked checked))
 
   questions_named : (questions : List (ℕ × Goal)) (written : List (ℕ × List ℕ)) → AllZip (IsToBeAnswered (names_of rules)) questions written → AllByRecursion (IsNamed (names_of rules)) (map (λ q. q.1) questions)
@@ -245,5 +247,5 @@ module _ (says : Verdicts Outcome) (scripts : Goal → List (Reply Outcome) → 
   -- each goal in the claims of the answers has a name
   pub claims_named : (claims : List PlainClaim) (all_fine : Bool) → WereAsked says scripts (questions_of rules) claims all_fine → All (IsClaim (names_of rules)) claims
   claims_named claims all_fine asked =
-      let goals = subst (AllByRecursion (IsNamed (names_of rules))) (sym asked.are_questions) (questions_named (questions_of rules) _ table.questions) in
-      All-from_recursion (IsClaim (names_of rules)) claims (subst (AllByRecursion (IsClaim (names_of rules))) (sym asked.are_claims) (all_claims_named asked.asked goals asked.are_checked))
+      let goals = subst (λ questions. AllByRecursion (IsNamed (names_of rules)) (map (λ q. q.1) questions)) (sym asked.are_questions) (questions_named (questions_of rules) _ table.questions) in
+      All-from_recursion (IsClaim (names_of rules)) claims (subst (AllByRecursion (IsClaim (names_of rules))) (sym asked.are_claims) (all_claims_named asked.asked goals asked.are_right))

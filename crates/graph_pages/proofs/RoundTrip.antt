@@ -23,7 +23,7 @@ use Rattle.graph_pages.proofs.Newline.{newline_passed}
 use Rattle.graph_data.proofs.Pages.{page_told}
 use Rattle.graph_data.proofs.SameRules.{same_script}
 use Rattle.graph_pages.specs.Below.{candidates_of, CxOf, DelegateOf, Goal, names_of, Node, Outcome, Reply, Request, Rules, Table, Verdict, verdicts, Verdicts}
-use Rattle.graph_pages.specs.Checked.{IsRightlyShown, verdict_of}
+use Rattle.graph_pages.specs.Checked.{IsRightlyShown, ShowsGraph, verdict_of}
 use Rattle.graph_data.specs.Data.{IsClaim, IsNamed, IsNode, plain_claim, plain_node, PlainClaim, PlainNode}
 use Rattle.graph_data.specs.Page.{IsPage}
 use Rattle.graph_pages.specs.Program.{ReadsBack, IsJudgedPage, IsReadBack, ShowsAnswers}
@@ -93,16 +93,17 @@ module _ (says : Verdicts Outcome) (scripts others : Goal → List (Reply Outcom
       ((nodes : List (Node Goal Outcome)) × (claim.nodes ≡ map plain_node nodes) × IsValidFor says (verdict_of claim.outcome) scripts nodes claim.goal)
       ⊎ ((verdict_of claim.outcome ≡ verdict.Neither) × (claim.nodes ≡ []))
 
-  claim_good : (goal : Goal) (came : Came) → IsRightlyShown says scripts goal came → AllByRecursion IsGood (claims_of goal came)
+  claim_good : (goal : Goal) (came : Came) → ShowsGraph says scripts goal came → AllByRecursion IsGood (claims_of goal came)
   claim_good goal (Graph outcome nodes) checked = (inl (nodes.items, refl, checked.is_valid), tt)
   claim_good goal (NoGraph outcome reason) checked = (inr (checked, refl), tt)
   claim_good goal (Unchecked outcome) checked = tt
   claim_good goal (Fault fault) checked = tt
 
-  pub all_good : (asked : List (Goal × Came)) → All (λ a. IsRightlyShown says scripts a.0 a.1) asked → AllByRecursion IsGood (flat_map (λ a. claims_of a.0 a.1) asked)
+  pub all_good : (asked : List ((ℕ × Goal) × Came)) → All (λ a. IsRightlyShown says scripts a.0 a.1) asked → AllByRecursion IsGood (flat_map (λ a. claims_of a.0.1 a.1) asked)
   all_good [] checked = tt
   all_good (a ∷ asked) checked =
-      AllByRecursion-append IsGood (claims_of a.0 a.1) (flat_map (λ b. claims_of b.0 b.1) asked) (claim_good a.0 a.1 (All-head (λ b. IsRightlyShown says scripts b.0 b.1) a asked checked)) (all_good asked (All-tail (λ b. IsRightlyShown says scripts b.0 b.1) a asked checked))
+      AllByRecursion-append IsGood (claims_of a.0.1 a.1) (flat_map (λ b. claims_of b.0.1 b.1) asked)
+      (claim_good a.0.1 a.1 (All-head (λ b. IsRightlyShown says scripts b.0 b.1) a asked checked).graph) (all_good asked (All-tail (λ b. IsRightlyShown says scripts b.0 b.1) a asked checked))
 
   no_nodes : (nodes : List (Node Goal Outcome)) → map plain_node nodes ≡ [] → nodes ≡ []
   no_nodes [] none = refl
@@ -150,7 +151,7 @@ module _ {D V P F A T : Type 0} (G : DelegateOf D (Table (Bor Rules)) V P F Goal
         let both = page_told (tokens written) (record { rules = rules; claims = shown.claims; is_page = written_page }) (record { rules = checked.table.lender.now; claims = read; is_page = is_page }) in
         let same = scripts_of_same shown.table checked.table both.0 in
         let claims : shown.claims ≡ map plain_claim (map (λ j. j.0) checked.are_judged.judged) = sym both.1 ∙ ap (map plain_claim) (sym checked.are_judged.are_claims) in
-        let good = subst (AllByRecursion (IsGood (verdicts X) (G.script shown.table) (G.script checked.table) (names_of rules) same)) (sym shown.are_asked.are_claims ∙ claims) (all_good (verdicts X) (G.script shown.table) (G.script checked.table) (names_of rules) same shown.are_asked.asked shown.are_asked.are_checked) in
+        let good = subst (AllByRecursion (IsGood (verdicts X) (G.script shown.table) (G.script checked.table) (names_of rules) same)) (sym shown.are_asked.are_claims ∙ claims) (all_good (verdicts X) (G.script shown.table) (G.script checked.table) (names_of rules) same shown.are_asked.asked shown.are_asked.are_right) in
         record {
           same_rules = both.0;
           same_claims = both.1;

@@ -7,8 +7,11 @@ pub use Rattle.rule_tables.specs.Text.{IsFirstBadLine, Reads}
 pub use Rattle.rule_tables.specs.declared.rules.Goal.{Goal}
 pub use Rattle.rule_tables.specs.declared.rules.Rules.{Rules}
 pub use Rattle.search_context.specs.Graph.{IsReached}
+pub use Rattle.search_context.specs.Rank.{IsPlainTo, IsPlainValue}
 pub use Rattle.search_context.specs.Valid.{goal_nodes_of, IsValidFor}
 pub use Rattle.search_context.specs.Verdicts.{verdicts, Verdicts}
+pub use Rattle.search_context.specs.declared.context.Fault.{Fault as SearchFault}
+pub use Rattle.search_context.specs.declared.context.Fault.TheVariants.{Memory}
 pub use Rattle.search_context.specs.declared.context.Node.{Node}
 pub use Rattle.search_context.specs.declared.context.Reply.{Reply}
 pub use Rattle.search_context.specs.declared.context.Request.{Request}

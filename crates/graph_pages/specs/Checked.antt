@@ -1,6 +1,6 @@
 -- What is known of an answer that is shown.
-use Rattle.std.specs.Prelude.{◌≡◌, ℕ, ◌<◌, ◌^◌, length, List, ⊤}
-use Rattle.graph_pages.specs.Below.{Goal, goal_nodes_of, IsReached, IsValidFor, Maybe, No, Node, Outcome, Overflow, Reply, Request, Verdict, Verdicts, Yes}
+use Rattle.std.specs.Prelude.{◌≡◌, ℕ, ◌<◌, ◌≤◌, ◌^◌, Err, IfErr, IfOk, length, List, Ok, Result, ⊤}
+use Rattle.graph_pages.specs.Below.{Goal, goal_nodes_of, IsPlainTo, IsPlainValue, IsReached, IsValidFor, Maybe, Memory, No, Node, Outcome, Overflow, Reply, Request, SearchFault, Verdict, Verdicts, Yes}
 use Rattle.search_context.specs.declared.context.Verdict.TheVariants as verdict
 use Rattle.graph_pages.specs.declared.answer.Came.{Came}
 use Rattle.graph_pages.specs.declared.answer.Came.TheVariants.{Graph, NoGraph, Unchecked, Fault}
@@ -22,13 +22,28 @@ pub record IsShownGraph (says : Verdicts Outcome) (scripts : Goal → List (Repl
   pub are_reached : AreReached nodes
   pub count : length nodes < 2 ^ 64
 
--- what is shown of the goal is such a graph, or it came to neither yes nor no
-abbrev pub IsRightlyShown : Verdicts Outcome → (Goal → List (Reply Outcome) → Request Goal Outcome) → Goal → Came → Type 0
-IsRightlyShown says scripts goal (Graph outcome nodes) = IsShownGraph says scripts goal outcome nodes.items
-IsRightlyShown says scripts goal (NoGraph outcome reason) = verdict_of outcome ≡ verdict.Neither
-IsRightlyShown says scripts goal (Unchecked outcome) = ⊤
-IsRightlyShown says scripts goal (Fault fault) = ⊤
+-- the outcome of which something is shown, or the fault
+abbrev pub outcome_of : Came → Result Outcome (SearchFault Goal Outcome)
+outcome_of (Graph outcome nodes) = Ok outcome
+outcome_of (NoGraph outcome reason) = Ok outcome
+outcome_of (Unchecked outcome) = Ok outcome
+outcome_of (Fault fault) = Err fault
 
--- it may be shown of any goal, since it shows no graph
-abbrev pub ShowsNoGraph : Came → Type 0
-ShowsNoGraph came = (says : Verdicts Outcome) (scripts : Goal → List (Reply Outcome) → Request Goal Outcome) (goal : Goal) → IsRightlyShown says scripts goal came
+-- what is shown of the goal is such a graph, or it came to neither yes nor no, or to a fault; a graph is never left unchecked
+abbrev pub ShowsGraph : Verdicts Outcome → (Goal → List (Reply Outcome) → Request Goal Outcome) → Goal → Came → Type 0
+ShowsGraph says scripts goal (Graph outcome nodes) = IsShownGraph says scripts goal outcome nodes.items
+ShowsGraph says scripts goal (NoGraph outcome reason) = verdict_of outcome ≡ verdict.Neither
+ShowsGraph says scripts goal (Unchecked outcome) = ⊥
+ShowsGraph says scripts goal (Fault fault) = ⊤
+
+-- What is shown of a question: its depth, and its goal.
+pub record IsRightlyShown (says : Verdicts Outcome) (scripts : Goal → List (Reply Outcome) → Request Goal Outcome) (question : ℕ × Goal) (came : Came) : Type 0 where
+  pub graph : ShowsGraph says scripts question.1 came
+  -- A goal whose questions go no deeper than the depth, and that is orderly with all goals below it, came to its plain value, or
+  -- memory was out.
+  pub plain : (n : ℕ) → IsPlainTo scripts n question.1 → n ≤ question.0 → IfOk (outcome_of came) (λ outcome. IsPlainValue scripts n question.1 outcome)
+  pub plain_faults : (n : ℕ) → IsPlainTo scripts n question.1 → n ≤ question.0 → IfErr (outcome_of came) (λ fault. fault ≡ Memory)
+
+-- what is shown without a graph of an outcome that is neither yes nor no may be shown of any goal
+abbrev pub ShowsNoGraph : Outcome → Came → Type 0
+ShowsNoGraph outcome came = verdict_of outcome ≡ verdict.Neither → (says : Verdicts Outcome) (scripts : Goal → List (Reply Outcome) → Request Goal Outcome) (goal : Goal) → ShowsGraph says scripts goal came

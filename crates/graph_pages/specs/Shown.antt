@@ -24,12 +24,12 @@ claims_of goal (NoGraph outcome reason) = record { goal = goal; outcome = outcom
 claims_of goal (Unchecked outcome) = []
 claims_of goal (Fault fault) = []
 
--- Each of these questions was asked, in order. A graph that is shown of it is valid for its goal and its outcome.
+-- Each of these questions was asked at its depth, in order, and what is shown of it is right.
 pub record WereAsked (says : Verdicts Outcome) (scripts : Goal → List (Reply Outcome) → Request Goal Outcome) (questions : List (ℕ × Goal)) (claims : List PlainClaim) (all_fine : Bool) : Type 0 where
-  pub asked : List (Goal × Came)
-  pub are_questions : map (λ a. a.0) asked ≡ map (λ q. q.1) questions
-  pub are_checked : All (λ a. IsRightlyShown says scripts a.0 a.1) asked
-  pub are_claims : claims ≡ flat_map (λ a. claims_of a.0 a.1) asked
+  pub asked : List ((ℕ × Goal) × Came)
+  pub are_questions : map (λ a. a.0) asked ≡ questions
+  pub are_right : All (λ a. IsRightlyShown says scripts a.0 a.1) asked
+  pub are_claims : claims ≡ flat_map (λ a. claims_of a.0.1 a.1) asked
   pub fine : all_fine ≡ list_all (λ a. is_fine a.1) asked
 
 -- It is a page of data that has the rules and these claims.

@@ -1,7 +1,8 @@
 //! What a question came to, and whether the graph of its answer is accepted.
-ghost use Rattle.std.specs.Prelude.{◌↔◌, IfOk, IsTrue};
+ghost use Rattle.std.specs.Prelude.{◌≡◌, ◌≢◌, ◌↔◌, IfOk, IsTrue, Ok};
+ghost use Rattle.search_context.specs.declared.context.Verdict.TheVariants.{Neither};
 ghost use Rattle.graph_pages.specs.Below.{IsValidFor, verdicts};
-ghost use Rattle.graph_pages.specs.Checked.{ShowsNoGraph, verdict_of};
+ghost use Rattle.graph_pages.specs.Checked.{ShowsNoGraph, outcome_of, verdict_of};
 
 use delegate_parts::Builder;
 use graph_check::check_graph;
@@ -23,7 +24,7 @@ pub enum Came {
         outcome: Outcome,
         reason: Reason,
     },
-    /// A yes or a no whose graph is missing or was refused.
+    /// A yes or a no whose graph is missing or was refused. No search comes to that.
     Unchecked(Outcome),
     Fault(Fault<Goal, Outcome>),
 }
@@ -45,7 +46,9 @@ impl Came {
 
 /// What the question came to where no graph comes with its outcome.
 pub fn without_graph<P: Progress>(watcher: &mut Watcher<P>, outcome: Outcome) -> Came
-    ensures { ShowsNoGraph result }
+    ensures outcome { outcome_of result ≡ Ok outcome }
+    ensures no_graph { ShowsNoGraph outcome result }
+    ensures unchecked { verdict_of outcome ≢ Neither → result ≡ Came.Unchecked outcome }
 {
     match outcome {
         Outcome::Yes | Outcome::No => Came::Unchecked(outcome),

@@ -5,7 +5,7 @@
 //! |---|---|
 //! | `Grammar`, `Text` | the grammar of lines and of whole texts |
 //! | `Question`, `Line` | questions and lines as the reading has them |
-//! | `Stop` | why a program over a table ends early |
+//! | `Stop` | why a program over a table ends early, and its exit status |
 //! | `Table`, `Rules` | the table that a text makes, and what it says of goals |
 //! | `Candidate`, `Starts` | candidates, and how a table keeps them |
 //! | `Draft`, `DraftRule` | a table that is being read |
@@ -27,4 +27,4 @@ pub use delegate::TableDelegate;
 pub use delegate_parts::{Builder, Outcome};
 pub use reading::ReadFault;
 pub use rules::{Goal, Rules};
-pub use stop::Stop;
+pub use stop::{Stop, status_told};

@@ -1,10 +1,12 @@
 //! Why a program over a table ends early.
 ghost use Rattle.std.specs.Prelude.{◌≡◌};
+ghost use Rattle.rule_tables.specs.Stop.{status_after};
 
 use crate::reading::ReadFault;
 use line_texts::InputFault;
 use std::alloc::AllocError;
 use std::io;
+use std::io::Write;
 use thiserror::Error;
 
 /// Why a program over a table ended early.
@@ -24,8 +26,8 @@ pub enum Stop {
 impl Stop {
     ghost use Rattle.rule_tables.specs.Stop.{status_of};
 
-    /// The exit status: 2, 3 or 4.
-    pub fn status(self) -> u8
+    // The exit status: 2, 3 or 4.
+    fn status(self) -> u8
         ensures { result ≡ status_of self }
     {
         match self {
@@ -70,17 +72,29 @@ impl From<ReadFault> for Stop {
 }
 
 impl From<InputFault> for Stop {
-    ghost use Rattle.std.specs.Prelude.{◌≡◌, ◌⊎◌};
-    ghost use Rattle.line_texts.specs.declared.input.InputFault.TheVariants as input;
-    ghost use Rattle.rule_tables.specs.declared.stop.Stop.TheVariants.{InputOrOutput, Memory};
+    ghost use Rattle.rule_tables.specs.Stop.{stopped_input};
 
-    ghost from_gives = { λ fault stop. ((fault ≡ input.Failed) × (stop ≡ InputOrOutput))
-        ⊎ ((fault ≡ input.Memory) × (stop ≡ Memory)) };
+    ghost from_gives = { λ fault stop. stop ≡ stopped_input fault };
 
     fn from(fault: InputFault) -> Stop {
         match fault {
             InputFault::Failed => Stop::InputOrOutput,
             InputFault::Memory => Stop::Memory,
+        }
+    }
+}
+
+/// The exit status: 0 where all is fine, 1 where something is not, and that of the reason where the program ended
+/// early. The reason is told.
+pub fn status_told<E: Write + Drop>(came: Result<bool, Stop>, mut err: E) -> u8
+    ensures { result ≡ status_after came }
+{
+    match came {
+        Ok(true) => 0,
+        Ok(false) => 1,
+        Err(stop) => {
+            let _ = writeln!(err, "{stop}");
+            stop.status()
         }
     }
 }

@@ -1,3 +1,2 @@
 pub mod moves
 pub mod results
-pub mod two_runs

@@ -13,7 +13,7 @@ pub use Rattle.search_context.specs.declared.context.Delegate.{Ghosts as Delegat
 pub use Rattle.search_context.specs.declared.context.Fault.{Fault}
 pub use Rattle.search_context.specs.declared.context.NodeId.{NodeId}
 pub use Rattle.search_context.specs.declared.context.Fault.TheVariants.{Memory}
-pub use Rattle.search_context.specs.declared.context.Reply.TheVariants.{Answer, Begin}
+pub use Rattle.search_context.specs.declared.context.Reply.TheVariants.{Begin}
 pub use Rattle.search_context.specs.declared.context.Request.TheVariants.{Done}
 pub use Rattle.search_stack.specs.declared.result.EvaluationResult.{EvaluationResult}
 pub use Rattle.search_stack.specs.declared.stack.StackEntry.{StackEntry}
@@ -59,5 +59,4 @@ pub use Rattle.search_rules.specs.Runs.{runs_of}
 pub use Rattle.search_rules.specs.declared.end_of_run.Unstable.{Unstable}
 pub use Rattle.search_rules.specs.declared.end_of_run.Unstable.TheVariants.{Again, AtLimit}
 pub use Rattle.between_moves.specs.Evaluations.{ChangesCache, HasRequest, IsRight, IsRightNext, LeadsTo, Moves, Requests, StartsFrame, StopsWith}
-pub use Rattle.between_moves.specs.Settled.{EntriesSuitCall, HaveOneKind, NoneUsed, OneKind, SettlesNext}
 pub use Rattle.search_state.specs.Drafts.{KeepsNoted}

@@ -1,15 +1,10 @@
 -- What the end of the newest goal's run leads to.
-use Rattle.std.specs.Prelude.{◌≡◌, ◌≤◌, ◌+◌, ◌||◌, ℕ, Bool, true, false, Option, None, Some, Result, Ok, Err}
+use Rattle.std.specs.Prelude.{◌≡◌, ◌≤◌, ◌+◌, ℕ, Bool, true, Option, None, Some, Result, Ok, Err}
 use Rattle.std.specs.Option.{option_map}
 use Rattle.search_ends.specs.Below.{Again, AtLimit, Begin, Cache, CountsOne, CxOf, DelegateOf, Fault, IsEndOfRun, KeepsEarlier, KeepsFinished, Memory, newest, Next, Overflow, RebaseReason, Run, StackEntry, Step, Unstable}
 use Rattle.search_state.specs.declared.evaluation.Evaluation.{Evaluation}
 use Rattle.search_ends.specs.Popped.{Pops, PopsOrFails}
 use Rattle.search_ends.specs.RunAgain.{RunsAgain}
-
--- whether this end is that of a goal that had its most runs
-abbrev pub is_at_limit : {C I R A T : Type 0} → Result (Option (RebaseReason C I R A T)) Unstable → Bool
-is_at_limit (Err AtLimit) = true
-is_at_limit _ = false
 
 module _ {D C V P F I R A T : Type 0} (G : DelegateOf D C V P F I R A T) (same_result : R → R → Bool) (outcome : R) (before : Evaluation D C V P F I R A T) where
   -- the newest goal, whose run came to the result, has this entry and run, and this becomes of it
@@ -17,14 +12,6 @@ module _ {D C V P F I R A T : Type 0} (G : DelegateOf D C V P F I R A T) (same_r
     pub is_entry : option_map (λ s. s.0) (newest before.goals) ≡ Some entry
     pub is_run : option_map (λ s. s.1) (newest before.goals) ≡ Some run
     pub ends : IsEndOfRun same_result G.initial_kind G.ambiguity G.FIXPOINT_STEP_LIMIT entry.state.provisional_result entry.state.usages run.finished_runs outcome end
-
-  -- a limit was met before, or is met now since the goal had its most runs
-  pub record MeetsLimitAtEnd (met : Bool) : Type 0 where
-    pub entry : StackEntry C I R A T
-    pub run : Run C F I R A T
-    pub end : Result (Option (RebaseReason C I R A T)) Unstable
-    pub comes : ComesToEnd entry run end
-    pub is : met ≡ (before.limits_met || is_at_limit end)
 
 module _ {D C V P F I R A T : Type 0} (G : DelegateOf D C V P F I R A T) (X : CxOf C I R A T) (same : I → I → Bool) (same_result : R → R → Bool) (outcome : R) (old : Cache C I R A T) (before : Evaluation D C V P F I R A T) where
   -- A goal that is done is popped with its result, for the reason why it needs no further run. One that had its most runs meets a

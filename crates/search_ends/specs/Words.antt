@@ -2,5 +2,5 @@
 pub use Rattle.search_ends.specs.Popped.{MayPop, Pops, PopsOrFails}
 pub use Rattle.search_ends.specs.RunAgain.{MayRunAgain, RunsAgain}
 pub use Rattle.search_ends.specs.Storing.{ChangesResults, Fails, IsStorable, MayStore, PutsAnswer, Stores, StoresOrFails}
-pub use Rattle.search_ends.specs.RunEnded.{ComesToEnd, HadMostRuns, IsDone, IsRunAgain, MeetsLimitAtEnd, RunLeads}
+pub use Rattle.search_ends.specs.RunEnded.{ComesToEnd, HadMostRuns, IsDone, IsRunAgain, RunLeads}
 pub use Rattle.search_ends.specs.RunEnded.{EndedAtLimit, EndedDone, NotRunAgain, RanAgain, RerunKeeps, RunEnds}

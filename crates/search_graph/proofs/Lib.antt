@@ -3,3 +3,4 @@ pub mod turns
 pub mod ran
 pub mod promises
 pub mod lists
+pub mod called

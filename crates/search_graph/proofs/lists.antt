@@ -1,4 +1,3 @@
 -- A list of queries, one call each.
 pub mod ListAnswers
 pub mod ListLimits
-pub mod ListRuns

@@ -1,4 +1,3 @@
 -- What a call promises as it ends or stops.
 pub mod Promises
 pub mod StoredDepths
-pub mod WorkedOut

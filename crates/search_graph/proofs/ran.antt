@@ -1,7 +1,5 @@
 -- What a call does, turn by turn, and what follows of that.
-pub mod Laws
 pub mod Making
 pub mod Moves
-pub mod SettledMoves
 pub mod Turns
 pub mod Calls

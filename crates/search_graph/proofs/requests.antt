@@ -2,4 +2,3 @@
 pub mod IgnoredTallies
 pub mod Noted
 pub mod Advancing
-pub mod SettledSteps

@@ -2,9 +2,11 @@ pub mod Graph
 pub mod Lists
 pub mod Fates
 pub mod Calls
-pub mod Settled
 pub mod Turns
+pub mod Laws
 pub mod Ran
+pub mod Called
+pub mod LimitsMet
 pub mod Worked
 pub mod Below
 pub mod Words

@@ -1,10 +1,11 @@
 -- What a list of queries is answered with. A query is a root depth, a goal, and the kind of the step that asks it.
-use Rattle.std.specs.Prelude.{◌≡◌, ℕ, ◌≤◌, max, All, Bool, true, false, Contains, List, ◌++◌, length, slice_get, None, Some, IfSome, Result, Ok, Err, IfOk, IfErr}
-use Rattle.std.specs.List.{AllZip, sum_by}
+use Rattle.std.specs.Prelude.{◌≡◌, ℕ, ◌≤◌, max, All, Bool, true, false, Contains, List, [], ◌∷◌, ◌++◌, slice_get, None, Some, IfSome, Result, Ok, Err, IfOk, IfErr}
+use Rattle.std.specs.List.{AllZip, list_any, sum_by}
+use Rattle.search_graph.specs.Called.{Called, HasRun}
+use Rattle.search_graph.specs.Graph.{Graph}
 use Rattle.search_graph.specs.Below.{AreDefinite, CxOf, DelegateOf, Fault, HasCounted, HaveNoOverflow, HaveNoOverflowOf, IsDecisive, IsEnclosed, IsDefinite, IsPaid, Memory, PathKind, Cache, KeepsFinished, HasGraph, IsWhole, IsPlainTo, IsPlainValue, frames_within, KeepsResults, verdicts}
 use Rattle.search_context.specs.declared.context.Answer.{Answer}
-use Rattle.search_rules.specs.Claims.{IsProved, IsRefuted, IsCaused, IsMemoryOrOrder}
-use Rattle.search_rules.specs.Settled.{HasOneOfEach}
+use Rattle.search_rules.specs.Claims.{HasOneOfEach, IsCaused, IsMemoryOrOrder, IsProved, IsRefuted}
 
 -- the new list has the items of the old one, and then one for each query, in order, of which this holds
 pub record AppendsEach {Q A : Type 0} (Holds : Q → A → Type 0) (queries : List Q) (old new : List A) : Type 0 where
@@ -53,19 +54,60 @@ module _ {D C V P F I R A T : Type 0} (G : DelegateOf D C V P F I R A T) (X : Cx
   abbrev pub AreEnclosed : C → List I → List (ℕ × I × PathKind) → Type 0
   AreEnclosed cx goals queries = All (λ query. IsEnclosed (G.script cx) goals query.0 query.1) queries
 
-  -- Whether a limit was met while the queries were answered. Until one is, a decisive delegate's answers and stored results are yes
-  -- or no, and if there is one yes and one no, the only faults are want of memory and requests out of order; and no result is stored
-  -- that met overflow. One that is met is paid for. Where the queries are enclosed, no question is
-  -- refused: no result of the goals is stored that met overflow, and a limit costs all runs of one goal.
-  pub record HasLimits (queries : List (ℕ × I × PathKind)) (old new : Cache C I R A T) (before now : ℕ) (answers_old answers_new : List (Result (Answer R) (Fault I R))) : Type 0 where
-    pub met : Bool
+  -- Whether a limit was met while the queries were answered, and what follows. Until one is, a decisive delegate's answers and stored
+  -- results are yes or no, and if there is one yes and one no, the only faults are want of memory and requests out of order; and no
+  -- result is stored that met overflow. One that is met is paid for. Where the queries are enclosed, no question is refused: no result of
+  -- the goals is stored that met overflow, and a limit costs all runs of one goal.
+  pub record HasLimits (met : Bool) (queries : List (ℕ × I × PathKind)) (old new : Cache C I R A T) (before now : ℕ) (answers : List (Result (Answer R) (Fault I R))) : Type 0 where
     pub decisive : IsDecisive (verdicts X) (G.script old.cx) → AreDefinite (verdicts X) same old.results → met ≡ false → AreDefinite (verdicts X) same new.results
     pub decided : IsDecisive (verdicts X) (G.script old.cx) → AreDefinite (verdicts X) same old.results → met ≡ false
-        → (at : ℕ) (answer : Answer R) → length answers_old ≤ at → slice_get answers_new at ≡ Some (Ok answer) → IsDefinite (verdicts X) answer.result
+        → (at : ℕ) (answer : Answer R) → slice_get answers at ≡ Some (Ok answer) → IsDefinite (verdicts X) answer.result
     pub faults : IsDecisive (verdicts X) (G.script old.cx) → HasOneOfEach (verdicts X) → AreDefinite (verdicts X) same old.results → met ≡ false
-        → (at : ℕ) (fault : Fault I R) → length answers_old ≤ at → slice_get answers_new at ≡ Some (Err fault) → IsMemoryOrOrder fault
+        → (at : ℕ) (fault : Fault I R) → slice_get answers at ≡ Some (Err fault) → IsMemoryOrOrder fault
     pub no_overflow : G.counts ≡ true → HaveNoOverflow same old.results → met ≡ false → HaveNoOverflow same new.results
     pub price : G.counts ≡ true → HaveNoOverflow same old.results → met ≡ true → HasPaid queries before now
     pub enclosed : (goals : List I) → AreEnclosed old.cx goals queries → HaveNoOverflowOf (Contains goals) same old.results → HaveNoOverflowOf (Contains goals) same new.results
     pub by_runs : (goals : List I) → AreEnclosed old.cx goals queries → HaveNoOverflowOf (Contains goals) same old.results → G.counts ≡ true → met ≡ true
         → HasCounted G.last before now (max 1 G.FIXPOINT_STEP_LIMIT)
+
+-- whether one of the graphs met a limit
+abbrev pub met_in : List Graph → Bool
+met_in graphs = list_any (λ graph. graph.limits_met) graphs
+
+-- the call that a query makes, which is made on a new graph
+abbrev pub call_for : {C I R A T : Type 0} → (noop : Bool) → ℕ × I × PathKind → Cache C I R A T → ℕ → Result (Answer R) (Fault I R) → Graph → Cache C I R A T → ℕ → Called C I R A T
+call_for noop query old from result left new to = record {
+  kind = query.2;
+  goal = query.1;
+  noop = noop;
+  looks_up = noop;
+  before = record { graph = record { root_depth = query.0; limits_met = false }; cache = old; starts = from };
+  result = result;
+  after = record { graph = left; cache = new; starts = to };
+}
+
+module _ {D C V P F I R A T : Type 0} (G : DelegateOf D C V P F I R A T) (X : CxOf C I R A T) (same : I → I → Bool) (same_result : R → R → Bool) (noop : Bool) where
+  -- the queries' calls were made, one after another, with these answers, and left these graphs
+  pub data AllRan (old : Cache C I R A T) (from : ℕ) : List (ℕ × I × PathKind) → List (Result (Answer R) (Fault I R)) → List Graph → Cache C I R A T → ℕ → Type 0 where
+    NoneRan : AllRan old from [] [] [] old from
+    ThenRan :
+        (queries : List (ℕ × I × PathKind)) (answers : List (Result (Answer R) (Fault I R))) (graphs : List Graph) (mid : Cache C I R A T) (between : ℕ)
+        (query : ℕ × I × PathKind) (answer : Result (Answer R) (Fault I R)) (graph : Graph) (new : Cache C I R A T) (to : ℕ)
+        → AllRan old from queries answers graphs mid between → HasRun G X same same_result (call_for noop query mid between answer graph new to)
+        → AllRan old from (queries ++ query ∷ []) (answers ++ answer ∷ []) (graphs ++ graph ∷ []) new to
+
+  -- and these answers were appended
+  pub record HaveRun (queries : List (ℕ × I × PathKind)) (old new : Cache C I R A T) (from to : ℕ) (answers_old answers_new : List (Result (Answer R) (Fault I R))) : Type 0 where
+    pub more : List (Result (Answer R) (Fault I R))
+    pub graphs : List Graph
+    pub appended : answers_new ≡ answers_old ++ more
+    pub ran : AllRan old from queries more graphs new to
+
+  -- the query has this answer of a call
+  pub record WasCalled (query : ℕ × I × PathKind) (answer : Result (Answer R) (Fault I R)) : Type 0 where
+    pub old : Cache C I R A T
+    pub from : ℕ
+    pub graph : Graph
+    pub new : Cache C I R A T
+    pub to : ℕ
+    pub ran : HasRun G X same same_result (call_for noop query old from answer graph new to)

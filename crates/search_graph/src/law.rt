@@ -1,15 +1,29 @@
-//! A law of what calls promise of stored results.
-ghost use Rattle.std.specs.Prelude.{◌≡◌, List, []};
-ghost use Rattle.search_graph.specs.Below.{CacheNode, Store, StoredResult};
-ghost use Rattle.between_moves.specs.Settled.{IsSettledStore};
+//! What follows of a call. Each is a law, a function that does nothing: a caller whose proof needs it calls it, and says of which
+//! call it is by the clause `ran` of that call. What a call promises in plain words stands at the call itself.
+ghost use Rattle.global_cache.specs.Sound.{IsSoundCache};
+ghost use Rattle.search_graph.specs.Below.{verdicts};
+ghost use Rattle.search_graph.specs.Laws.{AreLaws};
 
+pub mod decisive;
+pub mod enclosed;
+pub mod kept;
+pub mod limits;
+pub mod lists;
+pub mod stored;
+pub mod worked_out;
+
+use global_cache::GlobalCache;
 use search_context::context::Delegate;
 
-/// Where nothing is stored, as in a new cache, the stored results are settled, whatever the goals are.
-pub fn nothing_is_settled<D: Delegate>()
-    ensures { (cx : D.Cx) (nodes : List (CacheNode D.Cx.Input D.Cx.Result))
-        (goals : List D.Cx.Input)
-        (results : Store D.Cx.Input
-        (StoredResult D.Cx D.Cx.Input D.Cx.Result D.Cx.AmbiguityInfo D.Cx.DepNodeIndex)) →
-        results ≡ [] → IsSettledStore D.Delegate D.Cx.Cx D.Cx.Input.eq cx goals nodes results }
+/// The delegate keeps its laws.
+pub(crate) fn keeps_laws<D: Delegate>()
+    ensures { AreLaws D.Delegate D.Cx.Cx D.Cx.Input.eq D.Cx.Result.eq }
 {}
+
+/// A cache's nodes are runs of their goals, and its results are right.
+pub(crate) fn is_sound<D: Delegate>(cache: &GlobalCache<D>)
+    ensures { IsSoundCache D.Cx.Input.eq (verdicts D.Cx.Cx) D.script cache.now }
+{
+    cache.has_runs();
+    cache.has_sound_results();
+}

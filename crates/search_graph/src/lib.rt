@@ -4,9 +4,13 @@
 //! |---|---|
 //! | `Graph` | what a search graph is between its calls |
 //! | `Fates` | which stored results stay while a goal is worked out |
+//! | `Ran` | what a call does with its goal: a push and then turns, each of which is a move |
+//! | `Called` | what a call does from its beginning to its end; all promises follow of this |
+//! | `LimitsMet` | which limits it meets |
+//! | `Laws` | the laws of a delegate, on which all of that rests |
 //! | `Calls` | what a move, and the whole of an evaluation, comes to in whatever call it is made |
+//! | `Worked` | what a goal that is worked out comes to |
 //! | `Turns` | what a turn of the loop comes to, after which nodes may be let go |
-//! | `Settled` | when two runs of a goal are enough, and what a move and an evaluation keep then |
 //! | `Lists` | what a list of queries is answered with |
 #![tactic(auto)]
 

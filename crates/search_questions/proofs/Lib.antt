@@ -1,3 +1,2 @@
 pub mod moves
 pub mod nodes
-pub mod two_runs

@@ -14,15 +14,14 @@ pub use Rattle.search_stack.specs.Cycle.{path_kind_from}
 pub use Rattle.search_stack.specs.Stack.{allowed_depth, depth_below}
 pub use Rattle.search_stack.specs.declared.depth.AvailableDepth.{AvailableDepth}
 pub use Rattle.search_stack.specs.declared.stack.StackEntry.{StackEntry}
-pub use Rattle.provisional_cache.specs.Provisional.{entries_at, Lists}
+pub use Rattle.provisional_cache.specs.Provisional.{entries_at}
 pub use Rattle.provisional_cache.specs.declared.ProvisionalCacheEntry.{ProvisionalCacheEntry}
 pub use Rattle.graph_nodes.specs.Nodes.{CacheNode, graph_nodes_of, KeepsNodes, open_node}
 pub use Rattle.global_cache.specs.Cache.{Cache}
 pub use Rattle.graph_nodes.specs.Definite.{HasGraph}
 pub use Rattle.global_cache.specs.Hits.{first_accepted, usable}
 pub use Rattle.search_stack.specs.Hit.{Hit, hit_of}
-pub use Rattle.global_cache.specs.Store.{Store, stored_at}
-pub use Rattle.global_cache.specs.declared.results.Place.TheVariants.{Success}
+pub use Rattle.global_cache.specs.Store.{Store}
 pub use Rattle.global_cache.specs.declared.results.StoredResult.{StoredResult}
 pub use Rattle.goal_changes.specs.Entries.{cycle_head, first_entry}
 pub use Rattle.goal_changes.specs.Items.{AnswersNewest}
@@ -33,7 +32,7 @@ pub use Rattle.run_records.specs.declared.runs.Received.{Received}
 pub use Rattle.goal_changes.specs.OpenGoal.{OpenGoal}
 pub use Rattle.search_rules.specs.Calls.{bound, Call, CallMeetsNone, IsCounted, limits}
 pub use Rattle.search_rules.specs.Evaluating.{HasAsked, HasStopped, KeepsStore, seen}
-pub use Rattle.search_rules.specs.Fates.{fate_for, Fated, fates_of, HaveExpected}
+pub use Rattle.search_rules.specs.Fates.{Fated, fates_of, HaveExpected}
 pub use Rattle.search_rules.specs.Fates.{IsFated, MovesFates}
 pub use Rattle.search_rules.specs.Free.{AreFree}
 pub use Rattle.search_rules.specs.Justified.{AreJustified, IsFit, NewestAsks}
@@ -43,6 +42,5 @@ pub use Rattle.search_rules.specs.Provisional.{AreReady}
 pub use Rattle.search_rules.specs.Provisional.{IsReady}
 pub use Rattle.search_rules.specs.Runs.{StayFrom}
 pub use Rattle.search_rules.specs.Runs.{run_of, runs_of}
-pub use Rattle.between_moves.specs.Evaluations.{GoesOnWith, HasRequest, IsNew, IsRight, IsRightFor, KeepsCache, Requests, StartsFrame, StopsWith}
-pub use Rattle.between_moves.specs.Settled.{EntriesSuitCall, HaveOneKind, IsSettledStore, NoneUsed, OneKind, Settles}
+pub use Rattle.between_moves.specs.Evaluations.{GoesOnWith, HasRequest, IsRight, IsRightFor, KeepsCache, Requests, StartsFrame, StopsWith}
 pub use Rattle.search_state.specs.Drafts.{AreNotedNodes, IsOfStored, LeavesReached, noted}

@@ -3,8 +3,6 @@ pub mod records
 pub mod justified
 pub mod moves
 pub mod answers
-pub mod two_runs
-pub mod kinds
 pub mod collecting
 pub mod entries
 pub mod rebasing

@@ -1,3 +1,2 @@
 -- What holds between two moves holds still when nodes are let go.
 pub mod Kept
-pub mod Settled

@@ -1,11 +1,11 @@
 -- What the crates below have, from one place.
 pub use Rattle.open_graphs.specs.AnswerLaws.{TakesIn}
-pub use Rattle.open_graphs.specs.Graph.{Grown, IsClosedGraph}
+pub use Rattle.open_graphs.specs.Graph.{IsClosedGraph}
 pub use Rattle.open_graphs.specs.Rebased.{AreDepths, HasResult, InsertsEmpty, InsertsHeads, IsInserted, IsJoined}
 pub use Rattle.open_graphs.specs.Rebased.{IsLeftHead, IsRebasable, IsSingle, IsTakenOut, IsTrueReason, IsZero, Needed}
 pub use Rattle.open_graphs.specs.Rebased.{NotNeeded, PassesPathTest, RebasedBy, Stays}
 pub use Rattle.open_graphs.specs.Run.{Again, AllAnswered, Anew, Answered, IsAnsweredEdge, Without}
-pub use Rattle.open_graphs.specs.Stack.{Accepts, Entry, greatest, IsLeaf, path_kind}
+pub use Rattle.open_graphs.specs.Stack.{Accepts, Entry, greatest, path_kind}
 pub use Rattle.open_graphs.specs.State.{AfterPop, AllFinal, AllProvisional, answering, Final, in_first_run}
 pub use Rattle.open_graphs.specs.State.{in_next_run, IsSoundState, Lower, no_heads, OwnsOther, ProvisionalEntry}
 pub use Rattle.open_graphs.specs.State.{RunningGoal, stack_of}

@@ -1,7 +1,7 @@
 -- What answers and faults claim.
 use Rattle.std.specs.Prelude.{◌≡◌, ◌≢◌, ◌⊎◌, ℕ, Bool, true, List, Option, Some}
 use Rattle.std.specs.Option.{IsSomeAnd, option_map}
-use Rattle.search_rules.specs.Below.{CxOf, DelegateOf, NodeId, Store, StoredResult, first_accepted, usable, Request, Done, Reply, Fault, Conflict, Memory, Protocol, Validation, Place, IsFitting, fault_after, request_after, stored_at, Cache, graph_nodes_of, GraphNode, IsProofGraph, IsRefutationGraph}
+use Rattle.search_rules.specs.Below.{CxOf, DelegateOf, NodeId, Store, StoredResult, first_accepted, usable, Request, Done, Reply, Fault, Conflict, Memory, Protocol, Validation, Place, IsFitting, fault_after, request_after, stored_at, Cache, graph_nodes_of, GraphNode, IsProofGraph, IsRefutationGraph, IsDefinite, verdict_of, Verdicts}
 use Rattle.search_context.specs.declared.context.Answer.{Answer}
 
 module _ {C I R A T : Type 0} (X : CxOf C I R A T) (cache : Cache C I R A T) (goal : I) (node : Option NodeId) where
@@ -46,6 +46,10 @@ IfDiffers fault Holds = Unit {0}
 pub data IsMemoryOrOrder {I R : Type 0} (fault : Fault I R) : Type 0 where
   WantsMemory : fault ≡ Memory → IsMemoryOrOrder fault
   BreaksOrder : (number : ℕ) → fault ≡ Protocol number → IsMemoryOrOrder fault
+
+-- results that are both yes, or both no, are equal
+abbrev pub HasOneOfEach : {R : Type 0} → Verdicts R → Type 0
+HasOneOfEach {R} says = (x y : R) → IsDefinite says x → verdict_of says x ≡ verdict_of says y → x ≡ y
 
 module _ {D C V P F I R A T : Type 0} (G : DelegateOf D C V P F I R A T) (X : CxOf C I R A T) (same : I → I → Bool) (cache : Cache C I R A T) where
   -- The goal came to `found`, and the cache holds another result of it in the same place. Each of the two has its graph, if it is yes or no.

@@ -2,10 +2,6 @@ pub mod Results
 pub mod Fates
 pub mod Claims
 pub mod LookUp
-pub mod Lone
-pub mod Apart
-pub mod OneKind
-pub mod Kinds
 pub mod Decided
 pub mod Calls
 pub mod Moves
@@ -17,9 +13,6 @@ pub mod EndOfRun
 pub mod EntryShapes
 pub mod Provisional
 pub mod Evaluating
-pub mod Leads
 pub mod Live
-pub mod Older
-pub mod Settled
 pub mod Below
 pub mod Words

@@ -4,7 +4,7 @@ pub use Rattle.search_rules.specs.Decided.{AllDecided, IsDecided}
 pub use Rattle.search_rules.specs.Evaluating.{Begins, CallGoesOn, Decidedly, HasAsked, HasEnded, HasStopped}
 pub use Rattle.search_rules.specs.Evaluating.{IsWaiting, KeepsStore, Leads, seen, work_left}
 pub use Rattle.search_rules.specs.Free.{AreFree, IsFree}
-pub use Rattle.search_rules.specs.Claims.{BreaksOrder, ComesTo, Conflicts, IfDiffers, IsCaused, IsMemoryOrOrder}
+pub use Rattle.search_rules.specs.Claims.{BreaksOrder, ComesTo, Conflicts, HasOneOfEach, IfDiffers, IsCaused, IsMemoryOrOrder}
 pub use Rattle.search_rules.specs.Claims.{IsProved, IsRefuted, IsShown, WantsMemory}
 pub use Rattle.search_rules.specs.Claims.{OtherResult, OtherThanStored, OutOfMemory, OutOfOrder}
 pub use Rattle.search_rules.specs.Justified.{AreCharged, AreEdges, AreJustified, AreOpen, AreSupported, asked_now}
@@ -31,17 +31,6 @@ pub use Rattle.search_rules.specs.Runs.{run_of, runs_of, SaysAgain}
 pub use Rattle.search_rules.specs.Tallies.{candidate_at, candidates_count, counted, head_with, heads_of, heads_with}
 pub use Rattle.search_rules.specs.Tallies.{IsCovered, IsTallied, LieBelow, spare, spare_count, spare_heads, Tally}
 pub use Rattle.search_rules.specs.Tallies.{tally_of, usages_of}
-pub use Rattle.search_rules.specs.OneKind.{AsksByOneKind, first, here, last, MayAsk, MayLeadTo, MayReach, on}
-pub use Rattle.search_rules.specs.Kinds.{AreJoined, AreLinked, AskedByKind, AsksNewest, EntriesSuit, EntryIsLinked, IsGoalAt}
-pub use Rattle.search_rules.specs.Kinds.{IsJoinedTo, IsLinked, IsReachedBy, KeepsKinds, ReachesNested, StoredReachNested}
-pub use Rattle.search_rules.specs.Kinds.{StoredSuit}
-pub use Rattle.search_rules.specs.Lone.{AreLone, HasLone, IsLone, LoneRequire, NoneIsLone}
-pub use Rattle.search_rules.specs.Apart.{StandApart}
-pub use Rattle.search_rules.specs.Older.{BeganBefore, HasEntry, HasNoOlder, IsStop, RestOnOlder}
-pub use Rattle.search_rules.specs.Leads.{HasSuchGoal, StepOn, WalksTo, WalksToGoals}
 pub use Rattle.search_rules.specs.Live.{AreLiveEntries, AreLiveResults, AreLiveRuns, IsLiveNode, IsLiveRun}
-pub use Rattle.search_rules.specs.Settled.{AnswerStaysOff, AreSettled, AreSettledGoals, CallNeedsTwoRuns, EntryStaysOff}
-pub use Rattle.search_rules.specs.Settled.{HasOneOfEach, IsAside, IsBehind, IsKnown, IsOff, IsSettledGoal, IsSettling, LeadsOnly}
-pub use Rattle.search_rules.specs.Settled.{NeedsTwoRuns, StaysOff}
 pub use Rattle.search_rules.specs.declared.end_of_run.Unstable.{Unstable}
 pub use Rattle.search_rules.specs.declared.end_of_run.Unstable.TheVariants.{AtLimit}

@@ -14,17 +14,12 @@
 //! | `EndOfRun`, `Runs` | what becomes of a goal whose run has ended, and of its node |
 //! | `Justified`, `Free` | why each definite answer is right; answers that rest on no goal under evaluation |
 //! | `EntryShapes`, `Provisional` | provisional entries: why each may be used, and what becomes of them |
-//! | `Apart` | provisional entries are of goals that are not worked out meanwhile |
-//! | `Older`, `Leads` | entries older than a goal, and what walks come to that stop there |
 //! | `Live` | what goals, entries, results and replies lead to is live |
-//! | `OneKind`, `Kinds` | goals that ask by one kind of step, and what holds then of the stack, heads and nested goals |
 //! | `Decided` | goals whose answers are all yes or no |
-//! | `Lone`, `Settled` | when two runs of a goal are enough, and what answers and stored results rest on then |
 //!
 //! Of the proofs that belong to no single function, those in the folders `counts`, `records`, `justified`, `answers`
-//! and `entries` of `proofs/` show what each move keeps true, those in `kinds` what it keeps of the kinds of questions,
-//! and those in `collecting` what stays right where nodes are let go. Those in `rebasing` show what a pop leaves of an
-//! entry, and those in `moves` what each move leads to.
+//! and `entries` of `proofs/` show what each move keeps true, and those in `collecting` what stays right where nodes are
+//! let go. Those in `rebasing` show what a pop leaves of an entry, and those in `moves` what each move leads to.
 #![tactic(auto)]
 
 pub mod end_of_run;

@@ -9,6 +9,7 @@ use crate::delegate::{LendsShapes, Pair, PairsOf, ShapesDelegate};
 use delegate_parts::{Builder, Outcome};
 use question_lists::{ContextOf, Listed};
 use search_graph::graph::SearchGraph;
+use search_graph::law::decisive::decisive_results;
 use search_parts::context::{Fault, Verdict};
 use search_parts::global_cache::GlobalCache;
 use search_parts::path::PathKind;
@@ -51,6 +52,7 @@ impl<S: LendsShapes> Comparison<S> {
         ensures limits_stay { had_limits self.old ≡ true → had_limits self.new ≡ true }
         ensures same_shapes { compared self.new ≡ compared self.old }
     {
+        decisive_results::<ShapesDelegate<S>>();
         let mut graph = SearchGraph::<ShapesDelegate<S>>::new(self.alloc, depth);
         let mut builder = Builder::new(true);
         let pair = Pair { left, right };

@@ -1,5 +1,5 @@
 -- What was asked, one question further.
-use Rattle.std.proofs.Common.{◌≡◌, ◌∙◌, ◌+◌, ◌<◌, ◌≤◌, ◌&&◌, ℕ, ap, arith, Bool, get_or, length, List, [], ◌∷◌, ◌++◌, map, None, Option, refl, Some, subst, sym, take, true}
+use Rattle.std.proofs.Common.{◌≡◌, ◌∙◌, ◌+◌, ◌<◌, ◌≤◌, ◌&&◌, ℕ, ap, arith, Bool, get_or, length, List, [], ◌∷◌, ◌++◌, None, Option, refl, Some, subst, sym, take, true}
 use Rattle.std.proofs.KnownBytes.{Keeps-refl, Keeps-trans}
 use Rattle.std.proofs.Math.Bool.{and-true}
 use Rattle.std.proofs.lemmas.List.{flat_map_more, map-append, take_all, take_more}
@@ -33,23 +33,24 @@ module _ (says : Verdicts Outcome) (scripts : Goal → List (Reply Outcome) → 
     pub waits : HasClaims rules begun [] → HasClaims rules page claims × Keeps old new
 
   pub none_asked : (page : Page) (old : Option (List ℕ)) → AreAskedTo page page old old [] true
-  none_asked page old = record { claims = []; are_asked = record { asked = []; are_questions = refl; are_checked = λ k d below. absurd (omega arith); are_claims = refl; fine = refl }; waits = λ begun. (begun, Keeps-refl old) }
+  none_asked page old = record { claims = []; are_asked = record { asked = []; are_questions = refl; are_right = λ k d below. absurd (omega arith); are_claims = refl; fine = refl }; waits = λ begun. (begun, Keeps-refl old) }
 
   question_more : (questions : List (ℕ × Goal)) (claims : List PlainClaim) (i : ℕ) (question d : ℕ × Goal) (came : Came) (before after : Bool) → i < length questions → WereAsked says scripts (take i questions) claims before →
-      question ≡ get_or questions i d → IsRightlyShown says scripts question.1 came → after ≡ (before && is_fine came) → WereAsked says scripts (take (i + 1) questions) (claims ++ claims_of question.1 came) after
+      question ≡ get_or questions i d → IsRightlyShown says scripts question came → after ≡ (before && is_fine came) → WereAsked says scripts (take (i + 1) questions) (claims ++ claims_of question.1 came) after
   question_more questions claims i question d came before after below so_far is right both = record {
-    asked = so_far.asked ++ (question.1, came) ∷ [];
+    asked = so_far.asked ++ (question, came) ∷ [];
     are_questions =
-        map-append (λ a. a.0) so_far.asked ((question.1, came) ∷ []) ∙ ap (λ goals. goals ++ question.1 ∷ []) so_far.are_questions
-        ∙ sym (ap (map (λ q. q.1)) (take_more questions i d below) ∙ map-append (λ q. q.1) (take i questions) (get_or questions i d ∷ []) ∙ ap (λ q. map (λ q. q.1) (take i questions) ++ q.1 ∷ []) (sym is));
-    are_checked = All-push (λ a. IsRightlyShown says scripts a.0 a.1) so_far.asked (question.1, came) so_far.are_checked right;
-    are_claims = ap (λ cs. cs ++ claims_of question.1 came) so_far.are_claims ∙ flat_map_more (λ a. claims_of a.0 a.1) [] so_far.asked (question.1, came);
-    fine = both ∙ ap (λ b. b && is_fine came) so_far.fine ∙ sym (list_all-append (λ a. is_fine a.1) so_far.asked ((question.1, came) ∷ []) ∙ ap (λ b. list_all (λ a. is_fine a.1) so_far.asked && b) (and-true (is_fine came)));
+        map-append (λ a. a.0) so_far.asked ((question, came) ∷ []) ∙ ap (λ qs. qs ++ question ∷ []) so_far.are_questions
+        ∙ sym (take_more questions i d below ∙ ap (λ q. take i questions ++ q ∷ []) (sym is));
+    are_right = All-push (λ a. IsRightlyShown says scripts a.0 a.1) so_far.asked (question, came) so_far.are_right right;
+    are_claims = ap (λ cs. cs ++ claims_of question.1 came) so_far.are_claims ∙ flat_map_more (λ a. claims_of a.0.1 a.1) [] so_far.asked (question, came);
+    fine = both ∙ ap (λ b. b && is_fine came) so_far.fine
+        ∙ sym (list_all-append (λ a. is_fine a.1) so_far.asked ((question, came) ∷ []) ∙ ap (λ b. list_all (λ a. is_fine a.1) so_far.asked && b) (and-true (is_fine came)));
   }
 
   -- one question more, whose answer is added to the page
   pub asked_more : (begun page added passed : Page) (old mid new : Option (List ℕ)) (questions : List (ℕ × Goal)) (i : ℕ) (question d : ℕ × Goal) (came : Came) (before after : Bool) → i < length questions →
-      AreAskedTo begun page old mid (take i questions) before → question ≡ get_or questions i d → IsRightlyShown says scripts question.1 came → after ≡ (before && is_fine came) →
+      AreAskedTo begun page old mid (take i questions) before → question ≡ get_or questions i d → IsRightlyShown says scripts question came → after ≡ (before && is_fine came) →
       ((claims : List PlainClaim) → HasClaims rules page claims → HasClaims rules added (claims ++ claims_of question.1 came)) →
       ((table : Rules) (claims : List PlainClaim) → HasClaims table added claims → HasClaims table passed claims × Keeps mid new) →
       AreAskedTo begun passed old new (take (i + 1) questions) after

@@ -8,7 +8,7 @@ use Rattle.search_context.specs.declared.context.Reply.{Reply}
 use Rattle.delegate_parts.specs.declared.outcome.Outcome.TheVariants.{Maybe, No, Overflow, Yes}
 use Rattle.search_rules.specs.Claims.{BreaksOrder, OtherResult, OtherThanStored, OutOfMemory, OutOfOrder, WantsMemory}
 use Rattle.question_lists.proofs.Ranked.{orderly, scripts}
-use Rattle.search_rules.specs.OneKind.{AsksByOneKind}
+use Rattle.two_runs.specs.OneKind.{AsksByOneKind}
 use Rattle.structural_types.specs.Below.{Answer, AreDefinite, AreSettled, Cache, CxOf, DelegateOf, Fault, HasOneOfEach, IsCaused, IsDecisive, IsEnclosed, IsMemoryOrOrder, Memory, Outcome, outcome_verdicts, StoredReachNested, TwoRunsAreEnough, verdicts}
 use Rattle.type_order.specs.Pairs.{askable}
 use Rattle.structural_types.specs.Deciding.{EndsDecided, KeepsDeciding}

@@ -11,8 +11,8 @@ pub use Rattle.search_context.specs.declared.context.Delegate.{Ghosts as Delegat
 pub use Rattle.search_context.specs.declared.context.Fault.TheVariants.{Memory}
 pub use Rattle.search_context.specs.declared.context.Answer.{Answer}
 pub use Rattle.search_context.specs.declared.context.Fault.{Fault}
-pub use Rattle.search_graph.specs.Settled.{TwoRunsAreEnough}
-pub use Rattle.search_rules.specs.Claims.{IsCaused, IsMemoryOrOrder, IsProved, IsRefuted}
-pub use Rattle.search_rules.specs.Kinds.{StoredReachNested, StoredSuit}
+pub use Rattle.search_rules.specs.Claims.{HasOneOfEach, IsCaused, IsMemoryOrOrder, IsProved, IsRefuted}
 pub use Rattle.search_rules.specs.Results.{AreDefinite, HaveNoOverflowOf}
-pub use Rattle.search_rules.specs.Settled.{AreSettled, HasOneOfEach}
+pub use Rattle.two_runs.specs.Enough.{TwoRunsAreEnough}
+pub use Rattle.two_runs.specs.Kinds.{StoredReachNested, StoredSuit}
+pub use Rattle.two_runs.specs.Settled.{AreSettled}

@@ -9,11 +9,11 @@ use crate::subtyping::{Subtyping, TypesDelegate};
 use delegate_parts::{Builder, ContextOf, Outcome};
 use question_lists::Listed;
 use search_graph::graph::SearchGraph;
-use search_graph::law::nothing_is_settled;
 use search_parts::context::{Answer, Cx, Delegate, Fault};
 use search_parts::global_cache::GlobalCache;
 use search_parts::path::PathKind;
 use std::alloc::Global;
+use two_runs::law::{nothing_is_settled, two_runs};
 use type_order::{LendsTypes, Pair, PairsOf};
 
 // A cache that has no answers yet.
@@ -55,6 +55,7 @@ fn evaluated<D: Delegate>(
     ensures faults { IfErr result (IsCaused D.Delegate D.Cx.Cx D.Cx.Input.eq cache.new) }
     ensures same_context { cache.new.cx ≡ cache.old.cx }
 {
+    two_runs::<D>();
     graph.renew(usize::MAX);
     graph.evaluate_goal(cache, goal, PathKind::Coinductive, inspect)
 }

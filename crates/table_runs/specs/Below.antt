@@ -5,10 +5,15 @@ pub use Rattle.delegate_parts.specs.Builder.{is_noop_of, started_in}
 pub use Rattle.delegate_parts.specs.declared.builder.Builder.{Builder}
 pub use Rattle.delegate_parts.specs.declared.outcome.Outcome.{Outcome}
 pub use Rattle.search_context.specs.Verdicts.{IsDefinite, verdicts, Verdicts}
-pub use Rattle.search_context.specs.Valid.{IsValid, IsValidFor}
+pub use Rattle.search_context.specs.Valid.{goal_nodes_of, IsValid, IsValidFor}
+pub use Rattle.search_context.specs.Graph.{IsProofGraph, IsRefutationGraph}
+pub use Rattle.determined.specs.Closed.{HasProof, HasRefutation}
 pub use Rattle.graph_nodes.specs.Definite.{HasGraph}
+pub use Rattle.path_kinds.specs.declared.path.PathKind.TheVariants.{Inductive}
 pub use Rattle.search_graph.specs.Below.{IsPaid}
-pub use Rattle.search_rules.specs.Claims.{IsCaused}
+pub use Rattle.search_graph.specs.Called.{Called, HasRun}
+pub use Rattle.search_graph.specs.Graph.{Graph}
+pub use Rattle.search_rules.specs.Claims.{IsCaused, IsProved, IsRefuted}
 pub use Rattle.search_rules.specs.Results.{AreDefinite, HaveNoOverflow}
 pub use Rattle.search_context.specs.Decisive.{IsDecisive}
 pub use Rattle.search_context.specs.Rank.{IsPlainTo, IsPlainValue}
@@ -24,6 +29,7 @@ pub use Rattle.search_context.specs.declared.context.Request.{Request}
 pub use Rattle.search_context.specs.declared.context.Verdict.{Verdict}
 pub use Rattle.graph_nodes.specs.Nodes.{KeepsFinished}
 pub use Rattle.global_cache.specs.Cache.{Cache}
+pub use Rattle.global_cache.specs.Sound.{IsSoundCache}
 pub use Rattle.global_cache.specs.Hits.{first_accepted, usable}
 pub use Rattle.search_stack.specs.Hit.{Hit}
 pub use Rattle.global_cache.specs.Store.{KeepsResults}

@@ -1,12 +1,13 @@
 -- What a question came to, and the line of one that was asked of rules.
-use Rattle.std.specs.Prelude.{◌≡◌, ◌≢◌, ◌↔◌, ℕ, Bool, true, false, List, [], Result, Ok, Err}
+use Rattle.std.specs.Prelude.{◌≡◌, ◌≢◌, ◌↔◌, ℕ, All, Bool, true, false, List, [], Result, Ok, Err, IfOk}
 use Rattle.std.specs.Option.{unwrap_or}
 use Rattle.line_texts.specs.Questions as asked
 use Rattle.answer_lines.specs.Goals.{line_told}
 use Rattle.answer_lines.specs.declared.goals.Told.{Told}
 use Rattle.answer_lines.specs.declared.goals.Check.{Check}
 use Rattle.answer_lines.specs.declared.goals.Check.TheVariants.{None, Accepted, Refused}
-use Rattle.table_runs.specs.Below.{Fault, Outcome, IsDefinite, Verdicts, Goal, Rules, name_of}
+use Rattle.table_runs.specs.Below.{CxOf, Fault, Outcome, IsDefinite, Verdicts, Goal, Rules, name_of}
+use Rattle.table_runs.specs.Right.{IsRightOutcome, SomeGraphShows}
 use Rattle.table_runs.specs.declared.program.questions.Checks.{Checks}
 use Rattle.table_runs.specs.declared.program.questions.Checks.TheVariants.{EachGraph}
 
@@ -28,6 +29,15 @@ is_fine (Err fault) = false
 pub record IsChecked (says : Verdicts Outcome) (checks : Checks) (outcome : Outcome) (check : Check) : Type 0 where
   pub exact : (check ≡ Accepted) ↔ ((checks ≡ EachGraph) × IsDefinite says outcome)
   pub not_refused : check ≢ Refused
+
+-- By the rules alone what is told is right, and it is told as accepted only if a graph shows it.
+pub record IsRightlyTold {C A T : Type 0} (X : CxOf C Goal Outcome A T) (cx : C) (goal : Goal) (told : Told) : Type 0 where
+  pub right : IsRightOutcome X cx goal told.outcome
+  pub shown : told.check ≡ Accepted → SomeGraphShows X cx goal told.outcome
+
+-- so is what each question came to, unless it met a fault
+abbrev pub AreRight : {C A T : Type 0} → CxOf C Goal Outcome A T → C → List AnsweredQuestion → Type 0
+AreRight X cx = All (λ a. IfOk a.came (IsRightlyTold X cx a.question.1))
 
 -- the line of a question that was asked of these rules
 abbrev pub line_of : Rules → AnsweredQuestion → List ℕ

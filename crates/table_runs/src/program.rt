@@ -10,7 +10,7 @@ mod shown;
 use line_texts::{Flush, read_input};
 use questions::{Checks, answer_questions};
 use rule_tables::delegate::Table;
-use rule_tables::{Goal, Rules, Stop, TableDelegate};
+use rule_tables::{Goal, Outcome, Rules, Stop, TableDelegate, status_told};
 use search_parts::context::{Cx, Delegate};
 use std::alloc::Global;
 use std::io::{Read, Write};
@@ -39,7 +39,7 @@ pub fn run<R: Read + Drop, W: Write, E: Write + Drop>(
     // All questions of the text were answered in turn, and their lines are what was written; 0 says that none
     // met a fault and no graph was refused.
     ensures told { result ≤ 1 → IsAllTold ⟦<TableDelegate<'static, 8, 1> as Delegate>⟧
-        ⟦<Table<&'static Rules> as Cx>⟧ ⟦<Goal as PartialEq>⟧.eq Checks.EachGraph
+        ⟦<Table<&'static Rules> as Cx>⟧ ⟦<Goal as PartialEq>⟧.eq ⟦<Outcome as PartialEq>⟧.eq Checks.EachGraph
         (R.remaining input) (W.contents out.old) (W.contents out.new) (result == 0) }
 
     // Where the reader's bytes are known, a malformed line is told only of a text that the grammar does not
@@ -50,7 +50,7 @@ pub fn run<R: Read + Drop, W: Write, E: Write + Drop>(
 
     // What was written before a failure is a beginning of such lines.
     ensures beginning { 2 < result → IsBrokenOff ⟦<TableDelegate<'static, 8, 1> as Delegate>⟧
-        ⟦<Table<&'static Rules> as Cx>⟧ ⟦<Goal as PartialEq>⟧.eq Checks.EachGraph
+        ⟦<Table<&'static Rules> as Cx>⟧ ⟦<Goal as PartialEq>⟧.eq ⟦<Outcome as PartialEq>⟧.eq Checks.EachGraph
         (R.remaining input) (W.contents out.old) (W.contents out.new) }
 {
     run_with(alloc, Checks::EachGraph, input, out, err)
@@ -65,13 +65,13 @@ pub fn answer<R: Read + Drop, W: Write, E: Write + Drop>(
 ) -> u8
     ensures status { result ≤ 4 }
     ensures told { result ≤ 1 → IsAllTold ⟦<TableDelegate<'static, 8, 1> as Delegate>⟧
-        ⟦<Table<&'static Rules> as Cx>⟧ ⟦<Goal as PartialEq>⟧.eq Checks.Nothing
+        ⟦<Table<&'static Rules> as Cx>⟧ ⟦<Goal as PartialEq>⟧.eq ⟦<Outcome as PartialEq>⟧.eq Checks.Nothing
         (R.remaining input) (W.contents out.old) (W.contents out.new) (result == 0) }
     ensures bad_line { result ≡ 2 →
         IfSome (R.remaining input) (λ text. (n : ℕ) × IsFirstBadLine text n) }
     ensures nothing_written { result ≡ 2 → Keeps (W.contents out.old) (W.contents out.new) }
     ensures beginning { 2 < result → IsBrokenOff ⟦<TableDelegate<'static, 8, 1> as Delegate>⟧
-        ⟦<Table<&'static Rules> as Cx>⟧ ⟦<Goal as PartialEq>⟧.eq Checks.Nothing
+        ⟦<Table<&'static Rules> as Cx>⟧ ⟦<Goal as PartialEq>⟧.eq ⟦<Outcome as PartialEq>⟧.eq Checks.Nothing
         (R.remaining input) (W.contents out.old) (W.contents out.new) }
 {
     run_with(alloc, Checks::Nothing, input, out, err)
@@ -82,28 +82,22 @@ fn run_with<R: Read + Drop, W: Flush, E: Write + Drop>(
     checks: Checks,
     mut input: R,
     out: &mut W,
-    mut err: E,
+    err: E,
 ) -> u8
     ensures status { result ≤ 4 }
     ensures told { result ≤ 1 → IsAllTold ⟦<TableDelegate<'static, 8, 1> as Delegate>⟧
-        ⟦<Table<&'static Rules> as Cx>⟧ ⟦<Goal as PartialEq>⟧.eq checks
+        ⟦<Table<&'static Rules> as Cx>⟧ ⟦<Goal as PartialEq>⟧.eq ⟦<Outcome as PartialEq>⟧.eq checks
         (R.remaining input) (W.contents out.old) (W.contents out.new) (result == 0) }
     ensures bad_line { result ≡ 2 →
         IfSome (R.remaining input) (λ text. (n : ℕ) × IsFirstBadLine text n) }
     ensures nothing_written { result ≡ 2 → Keeps (W.contents out.old) (W.contents out.new) }
     ensures beginning { 2 < result → IsBrokenOff ⟦<TableDelegate<'static, 8, 1> as Delegate>⟧
-        ⟦<Table<&'static Rules> as Cx>⟧ ⟦<Goal as PartialEq>⟧.eq checks
+        ⟦<Table<&'static Rules> as Cx>⟧ ⟦<Goal as PartialEq>⟧.eq ⟦<Outcome as PartialEq>⟧.eq checks
         (R.remaining input) (W.contents out.old) (W.contents out.new) }
     ensures flushed { result ≤ 1 → W.is_flushed out.new }
 {
-    match answer_input(alloc, checks, &mut input, out) {
-        Ok(true) => 0,
-        Ok(false) => 1,
-        Err(stop) => {
-            let _ = writeln!(err, "{stop}");
-            stop.status()
-        }
-    }
+    let came = answer_input(alloc, checks, &mut input, out);
+    status_told(came, err)
 }
 
 // Whether each question was answered, and none met a fault.
@@ -114,7 +108,7 @@ fn answer_input<R: Read, W: Flush>(
     out: &mut W,
 ) -> Result<bool, Stop>
     ensures told { IfOk result (IsAllTold ⟦<TableDelegate<'static, 8, 1> as Delegate>⟧
-        ⟦<Table<&'static Rules> as Cx>⟧ ⟦<Goal as PartialEq>⟧.eq checks
+        ⟦<Table<&'static Rules> as Cx>⟧ ⟦<Goal as PartialEq>⟧.eq ⟦<Outcome as PartialEq>⟧.eq checks
         (R.remaining input.old) (W.contents out.old) (W.contents out.new)) }
     ensures flushed { OnOk result (W.is_flushed out.new) }
     ensures bad_line { (n : ℕ) → result ≡ Err (Stop.BadLine n) →
@@ -122,7 +116,7 @@ fn answer_input<R: Read, W: Flush>(
     ensures nothing_written { (n : ℕ) → result ≡ Err (Stop.BadLine n) →
         Keeps (W.contents out.old) (W.contents out.new) }
     ensures beginning { OnErr result (IsBrokenOff ⟦<TableDelegate<'static, 8, 1> as Delegate>⟧
-        ⟦<Table<&'static Rules> as Cx>⟧ ⟦<Goal as PartialEq>⟧.eq checks
+        ⟦<Table<&'static Rules> as Cx>⟧ ⟦<Goal as PartialEq>⟧.eq ⟦<Outcome as PartialEq>⟧.eq checks
         (R.remaining input.old) (W.contents out.old) (W.contents out.new)) }
 {
     let text = read_input(alloc, input)?;

@@ -1,13 +1,17 @@
 //! What the program does: it reads a table, and shows how its questions are answered, in order.
-ghost use Rattle.std.specs.Prelude.{◌≡◌, ◌≤◌, ◌⊎◌, ℕ, IfErr, IfSome};
+ghost use Rattle.std.specs.Prelude.{◌≡◌, ◌≤◌, ◌<◌, ◌==◌, ◌⊎◌, ℕ, IfOk, IfErr, IfSome, OnErr, OnOk};
 ghost use Rattle.std.specs.Io.KnownBytes.{Keeps};
 ghost use Rattle.trees.specs.Below.{IsFirstBadLine};
+ghost use Rattle.trees.specs.Program.{IsAllShown, IsBrokenOff};
 
 mod shown;
 
-use line_texts::read_input;
-use rule_tables::{Rules, Stop};
-use shown::show;
+use line_texts::{Flush, read_input};
+use proof_trees::Recording;
+use rule_tables::delegate::Table;
+use rule_tables::{Goal, Outcome, Rules, Stop, TableDelegate, status_told};
+use search_parts::context::{Cx, Delegate};
+use shown::show_questions;
 use std::alloc::Global;
 use std::io::{Read, Write};
 
@@ -19,51 +23,58 @@ use std::io::{Read, Write};
 /// line: then no question is asked. 3 where reading or writing failed, and 4 where there was no memory for the input, the
 /// table or a tree's text: then the program ends there. For 2, 3 and 4 the reason stands on the second writer, and a
 /// failure to write it changes nothing.
-pub(crate) fn run<R: Read + Drop, W: Write, E: Write + Drop>(
+pub(crate) fn run<R: Read + Drop, W: Flush, E: Write + Drop>(
     alloc: Global,
     mut input: R,
     out: &mut W,
-    mut err: E,
+    err: E,
 ) -> u8
     ensures status { result ≤ 4 }
+
+    // All questions of the text were worked out in turn, and their trees are what was written; 0 says that none met a
+    // fault.
+    ensures told { result ≤ 1 → IsAllShown ⟦<Recording<TableDelegate<'static, 8, 1>> as Delegate>⟧
+        ⟦<Table<&'static Rules> as Cx>⟧ ⟦<Goal as PartialEq>⟧.eq ⟦<Outcome as PartialEq>⟧.eq
+        (R.remaining input) (W.contents out.old) (W.contents out.new) (result == 0) }
+    ensures flushed { result ≤ 1 → W.is_flushed out.new }
+
+    // Where the reader's bytes are known, a malformed line is told only of a text that the grammar does not
+    // allow.
     ensures bad_line { result ≡ 2 →
         IfSome (R.remaining input) (λ text. (n : ℕ) × IsFirstBadLine text n) }
     ensures nothing_written { result ≡ 2 → Keeps (W.contents out.old) (W.contents out.new) }
+
+    // What was written before a failure is a beginning of such trees.
+    ensures beginning { 2 < result → IsBrokenOff
+        ⟦<Recording<TableDelegate<'static, 8, 1>> as Delegate>⟧
+        ⟦<Table<&'static Rules> as Cx>⟧ ⟦<Goal as PartialEq>⟧.eq ⟦<Outcome as PartialEq>⟧.eq
+        (R.remaining input) (W.contents out.old) (W.contents out.new) }
 {
-    match show_input(alloc, &mut input, out) {
-        Ok(true) => 0,
-        Ok(false) => 1,
-        Err(stop) => {
-            let _ = writeln!(err, "{stop}");
-            stop.status()
-        }
-    }
+    let came = show_input(alloc, &mut input, out);
+    status_told(came, err)
 }
 
 // Whether each question was answered without a fault.
-fn show_input<R: Read, W: Write>(alloc: Global, input: &mut R, out: &mut W) -> Result<bool, Stop>
+fn show_input<R: Read, W: Flush>(alloc: Global, input: &mut R, out: &mut W) -> Result<bool, Stop>
+    ensures told { IfOk result (IsAllShown ⟦<Recording<TableDelegate<'static, 8, 1>> as Delegate>⟧
+        ⟦<Table<&'static Rules> as Cx>⟧ ⟦<Goal as PartialEq>⟧.eq ⟦<Outcome as PartialEq>⟧.eq
+        (R.remaining input.old) (W.contents out.old) (W.contents out.new)) }
+    ensures flushed { OnOk result (W.is_flushed out.new) }
     ensures bad_line { (n : ℕ) → result ≡ Err (Stop.BadLine n) →
         IfSome (R.remaining input.old) (λ text. IsFirstBadLine text n) }
     ensures nothing_written { (n : ℕ) → result ≡ Err (Stop.BadLine n) →
         Keeps (W.contents out.old) (W.contents out.new) }
+    ensures beginning { OnErr result (IsBrokenOff
+        ⟦<Recording<TableDelegate<'static, 8, 1>> as Delegate>⟧
+        ⟦<Table<&'static Rules> as Cx>⟧ ⟦<Goal as PartialEq>⟧.eq ⟦<Outcome as PartialEq>⟧.eq
+        (R.remaining input.old) (W.contents out.old) (W.contents out.new)) }
 {
     let text = read_input(alloc, input)?;
     let rules = Rules::read(alloc, text.as_slice())?;
-    show_questions(alloc, &rules, out)
-}
-
-// Whether no question met a fault.
-fn show_questions<W: Write>(alloc: Global, rules: &Rules, out: &mut W) -> Result<bool, Stop>
-    ensures { IfErr result (λ stop. (stop ≡ Stop.InputOrOutput) ⊎ (stop ≡ Stop.Memory)) }
-{
-    let mut all_fine = true;
-    let mut text = Vec::new(alloc);
-    for question in rules.questions() {
-        let (depth, goal) = *question;
-        text.clear();
-        all_fine &= show(alloc, rules, depth, goal, &mut text).map_err(|_| Stop::Memory)?;
-        out.write_all(text.as_slice())?;
-    }
-    out.flush()?;
-    Ok(all_fine)
+    show_questions::<Table<&Rules>, Recording<TableDelegate<'_, 8, 1>>, W>(
+        alloc,
+        Table { lender: &rules },
+        &rules,
+        out,
+    )
 }

@@ -8,7 +8,7 @@ use std::test::Fail;
 use table_runs::fault_word;
 
 /// Each fault with its word. The goal of a fault is told nowhere.
-fn faults_of(input: Goal) -> [(Fault<Goal, Outcome>, &'static str); 4] {
+pub(super) fn faults_of(input: Goal) -> [(Fault<Goal, Outcome>, &'static str); 4] {
     let stored = Outcome::Maybe;
     let found = Outcome::Yes;
     [

@@ -1,15 +1,14 @@
 -- What follows of the end of a run: where the call goes on or stops, that all stays right, and what is kept.
-use Rattle.std.proofs.Common.{◌≡◌, ◌<◌, ◌≤◌, ◌+◌, ◌∷◌, ◌∙◌, ℕ, Bool, max, true, List, Option, None, Some, Result, Ok, Err, IfOk, IfErr, refl, sym, ap, subst}
+use Rattle.std.proofs.Common.{◌≡◌, ◌<◌, ◌≤◌, ◌+◌, ◌∷◌, ℕ, Bool, max, true, List, Option, None, Some, Result, Ok, Err, IfOk, IfErr, refl, sym, ap, subst}
 use Rattle.between_moves.proofs.Keeping.{leaves_results}
 use Rattle.global_cache.proofs.Stores.{KeepsResults-same}
 use Rattle.goal_changes.specs.Entries.{is_in_cycle}
 use Rattle.search_context.specs.Delegate.{IsNeither}
-use Rattle.search_ends.proofs.moves.LimitsAtEnd.{or_met, or_not}
 use Rattle.search_ends.proofs.moves.Said.{done_keeps, end_leaves, limited_keeps_answers, rerun_keeps}
 use Rattle.search_ends.proofs.results.Causes.{memory_lasts}
 use Rattle.search_ends.proofs.results.Remembering.{meets_compared, remembered}
 use Rattle.search_ends.specs.Below.{Again, AtLimit, Begin, Cache, Call, ChangesCache, CountsOne, CxOf, DelegateOf, Done, Fault, IsRight, IsRightNext, KeepsAnswers, KeepsStore, LeadsTo, Memory, Next, OpenGoal, Overflow, RebaseReason, Requests, Run, runs_of, StackEntry, Step, StopsWith, verdicts}
-use Rattle.search_ends.specs.Words.{ComesToEnd, EndedAtLimit, EndedDone, HadMostRuns, IsDone, IsRunAgain, MeetsLimitAtEnd, NotRunAgain, PopsOrFails, RanAgain, RerunKeeps, RunEnds, RunLeads, RunsAgain, StoresOrFails}
+use Rattle.search_ends.specs.Words.{ComesToEnd, EndedAtLimit, EndedDone, HadMostRuns, IsDone, IsRunAgain, NotRunAgain, PopsOrFails, RanAgain, RerunKeeps, RunEnds, RunLeads, RunsAgain, StoresOrFails}
 use Rattle.search_rules.proofs.justified.Finishing.{begin_fits}
 use Rattle.search_rules.proofs.moves.DoneRuns.{differs_definite, limited_keeps, memory_alone, put_keeps, stopped_by, stopped_by_both, stopped_each}
 use Rattle.search_rules.proofs.moves.EndOfRunLaws.{limited, newest_limited, newest_unstable, unstable}
@@ -48,20 +47,6 @@ module _ {D C V P F I R A T : Type 0} {G : DelegateOf D C V P F I R A T} {X : Cx
   ended_right (RanAgain entry run new after later comes keeps reran counted) =
       record { justified = (reran.right.justified, begin_fits (verdicts X) new.nodes (runs_of after.goals)); free = reran.right.free; ready = reran.right.ready }
   ended_right (NotRunAgain entry run new after later comes keeps) = tt
-
-  -- ---- whether a limit is met
-
-  pub ended_meets :
-      {result : Result (Next R) (Fault I R)} {new : Cache C I R A T} {after : Evaluation D C V P F I R A T} {later : ℕ} → RunEnds G X same same_result outcome old before starts result new after later
-      → MeetsLimitAtEnd G same_result outcome before after.limits_met
-  ended_meets (EndedDone entry run reason result new after comes pop) =
-      record { entry = entry; run = run; end = Ok reason; comes = comes; is = ap (λ (a : Evaluation D C V P F I R A T). a.limits_met) pop.rest ∙ or_not before.limits_met }
-  ended_meets (EndedAtLimit entry run result new after comes pop) =
-      record { entry = entry; run = run; end = Err AtLimit; comes = comes; is = ap (λ (a : Evaluation D C V P F I R A T). a.limits_met) pop.rest ∙ or_met before.limits_met }
-  ended_meets (RanAgain entry run new after later comes keeps reran counted) =
-      record { entry = entry; run = run; end = Err Again; comes = comes; is = ap (λ (a : Evaluation D C V P F I R A T). a.limits_met) keeps.rest ∙ or_not before.limits_met }
-  ended_meets (NotRunAgain entry run new after later comes keeps) =
-      record { entry = entry; run = run; end = Err Again; comes = comes; is = ap (λ (a : Evaluation D C V P F I R A T). a.limits_met) keeps.rest ∙ or_not before.limits_met }
 
   -- ---- what is kept, and where that fails
 

@@ -1,8 +1,6 @@
 -- Answers to a list of queries stay right while more queries are answered.
-use Rattle.std.proofs.Common.{◌≡◌, ℕ, ◌+◌, ◌<◌, ◌≤◌, Bool, true, false, List, [], ◌∷◌, ◌++◌, length, take, get_or, IfSome, Result, Ok, Err, IfOk, IfErr, None, refl, sym, ap, ◌∙◌, subst, arith}
-use Rattle.std.specs.List.{AllZip, sum_by}
-use Rattle.std.proofs.lemmas.List.{take_more}
-use Rattle.std.proofs.lemmas.List.Sums.{sum_by-append}
+use Rattle.std.proofs.Common.{◌≡◌, ℕ, ◌≤◌, Bool, true, false, List, [], ◌∷◌, ◌++◌, IfSome, Result, Ok, Err, IfOk, IfErr, None, refl, sym, ap, ◌∙◌, subst}
+use Rattle.std.specs.List.{AllZip}
 use Rattle.std.proofs.lemmas.Result.{IfOk-weaker}
 use Rattle.search_graph.specs.Below.{CxOf, DelegateOf, Fault, Memory, PathKind, Cache, AreRuns, KeepsFinished, HasGraph, Question, Overlap, IsPlainTo, IsPlainValue, KeepsResults, IsWhole, verdicts, IsProved, IsRefuted}
 use Rattle.search_context.specs.declared.context.Answer.{Answer}
@@ -11,43 +9,26 @@ use Rattle.graph_nodes.proofs.Definites.{HasGraph-finished, definite_is_whole}
 use Rattle.graph_nodes.proofs.Finished.{KeepsFinished-then}
 use Rattle.global_cache.proofs.Stores.{KeepsResults-then}
 use Rattle.search_graph.specs.Words.{HadCause, HasAnswer}
-use Rattle.search_graph.specs.Lists.{AppendsEach, IsAnsweredQuery}
+use Rattle.search_graph.specs.Lists.{IsAnsweredQuery}
 use Rattle.search_rules.proofs.answers.Shown.{yes_is_proved, no_is_refuted, neither_is_none}
 
-appended : {A : Type 0} (old more : List A) (a : A) → (old ++ more) ++ a ∷ [] ≡ old ++ (more ++ a ∷ [])
+-- one more is appended
+pub appended : {A : Type 0} (old more : List A) (a : A) → (old ++ more) ++ a ∷ [] ≡ old ++ (more ++ a ∷ [])
 appended [] more a = refl
 appended (b ∷ old) more a = ap (λ l. b ∷ l) (appended old more a)
 
--- the first queries' sum, and one more
-pub sum_by-more : {Q : Type 0} (f : Q → ℕ) (queries : List Q) (i : ℕ) (query : Q) → i < length queries → query ≡ get_or queries i query → sum_by f (take (i + 1) queries) ≡ sum_by f (take i queries) + f query
-sum_by-more f queries i query below is =
-    ap (sum_by f) (take_more queries i query below ∙ ap (λ q. take i queries ++ q ∷ []) (sym is))
-    ∙ (sum_by-append f (take i queries) (query ∷ []) ∙ omega arith)
-
 module _ {Q A : Type 0} where
-  AllZip-more : (Holds : Q → A → Type 0) (queries : List Q) (more : List A) (query : Q) (a : A) → AllZip Holds queries more → Holds query a → AllZip Holds (queries ++ query ∷ []) (more ++ a ∷ [])
+  pub AllZip-more : (Holds : Q → A → Type 0) (queries : List Q) (more : List A) (query : Q) (a : A) → AllZip Holds queries more → Holds query a → AllZip Holds (queries ++ query ∷ []) (more ++ a ∷ [])
   AllZip-more Holds [] [] query a h holds = (holds, tt)
   AllZip-more Holds [] (b ∷ more) query a h holds = absurd h
   AllZip-more Holds (q ∷ queries) [] query a h holds = absurd h
   AllZip-more Holds (q ∷ queries) (b ∷ more) query a h holds = (h.0, AllZip-more Holds queries more query a h.1 holds)
 
-  AllZip-weaker : (Holds Also : Q → A → Type 0) → ((query : Q) (a : A) → Holds query a → Also query a) → (queries : List Q) (more : List A) → AllZip Holds queries more → AllZip Also queries more
+  pub AllZip-weaker : (Holds Also : Q → A → Type 0) → ((query : Q) (a : A) → Holds query a → Also query a) → (queries : List Q) (more : List A) → AllZip Holds queries more → AllZip Also queries more
   AllZip-weaker Holds Also so [] [] h = tt
   AllZip-weaker Holds Also so [] (b ∷ more) h = absurd h
   AllZip-weaker Holds Also so (q ∷ queries) [] h = absurd h
   AllZip-weaker Holds Also so (q ∷ queries) (b ∷ more) h = (so q b h.0, AllZip-weaker Holds Also so queries more h.1)
-
-  -- one query more
-  pub AppendsEach-more : (Holds : Q → A → Type 0) (queries : List Q) (i : ℕ) (query : Q) → i < length queries → query ≡ get_or queries i query → (old new newer : List A) (a : A)
-      → AppendsEach Holds (take i queries) old new → Holds query a → newer ≡ new ++ a ∷ [] → AppendsEach Holds (take (i + 1) queries) old newer
-  AppendsEach-more Holds queries i query below is old new newer a h holds grown = record {
-    more = h.more ++ a ∷ [];
-    is = grown ∙ (ap (λ l. l ++ a ∷ []) h.is ∙ appended old h.more a);
-    each = subst (λ qs. AllZip Holds qs (h.more ++ a ∷ [])) (ap (λ q. take i queries ++ q ∷ []) is ∙ sym (take_more queries i query below)) (AllZip-more Holds (take i queries) h.more query a h.each holds);
-  }
-
-  pub AppendsEach-weaker : (Holds Also : Q → A → Type 0) → ((query : Q) (a : A) → Holds query a → Also query a) → (queries : List Q) (old new : List A) → AppendsEach Holds queries old new → AppendsEach Also queries old new
-  AppendsEach-weaker Holds Also so queries old new h = record { more = h.more; is = h.is; each = AllZip-weaker Holds Also so queries h.more h.each }
 
 pub IfErr-weaker : {A E : Type 0} (r : Result A E) (P Q : E → Type 0) → ((e : E) → P e → Q e) → IfErr r P → IfErr r Q
 IfErr-weaker (Ok a) P Q so h = tt

@@ -22,12 +22,6 @@ last_at : {A : Type 0} (xs : List A) (x : A) → slice_get (xs ++ x ∷ []) (len
 last_at [] x = refl
 last_at (z ∷ xs) x = last_at xs x
 
--- no place is beyond a list and in it
-pub beyond_none : {A : Type 0} (xs : List A) (at : ℕ) (x : A) → length xs ≤ at → slice_get xs at ≡ Some x → ⊥
-beyond_none [] at x beyond is = absurd cc
-beyond_none (y ∷ xs) zero x beyond is = absurd (omega (arith, beyond))
-beyond_none (y ∷ xs) (suc n) x beyond is = beyond_none xs n x (omega (arith, beyond)) is
-
 -- neither of two is true
 neither_of : (first second : Bool) → (first || second) ≡ false → (first ≡ false) × (second ≡ false)
 neither_of true second none = absurd cc
@@ -41,17 +35,16 @@ each_of P (z ∷ xs) x h =
     (All-cons P z xs (All-head P z (xs ++ x ∷ []) h) rest.0, rest.1)
 
 -- what was counted is counted, if the count began earlier or ends later
-counted_over : (last before mid now later many : ℕ) → before ≤ mid → now ≤ later → HasCounted last mid now many → HasCounted last before later many
+pub counted_over : (last before mid now later many : ℕ) → before ≤ mid → now ≤ later → HasCounted last mid now many → HasCounted last before later many
 counted_over last before mid now later many from to h = elim h [ inl counted ↦ inl (omega (arith, counted, from, to)) | inr ended ↦ inr (omega (arith, ended, to)) ]
 
 module _ {D C V P F I R A T : Type 0} (G : DelegateOf D C V P F I R A T) (X : CxOf C I R A T) (same : I → I → Bool) where
   -- no query meets a limit
-  pub no_limits : (cache : Cache C I R A T) (starts : ℕ) (answers : List (Result (Answer R) (Fault I R))) → HasLimits G X same [] cache cache starts starts answers answers
-  no_limits cache starts answers = record {
-    met = false;
+  pub no_limits : (cache : Cache C I R A T) (starts : ℕ) → HasLimits G X same false [] cache cache starts starts []
+  no_limits cache starts = record {
     decisive = λ decisive all unmet. all;
-    decided = λ decisive all unmet at answer beyond is. absurd (beyond_none answers at (Ok answer) beyond is);
-    faults = λ decisive one all unmet at fault beyond is. absurd (beyond_none answers at (Err fault) beyond is);
+    decided = λ decisive all unmet at answer is. absurd cc;
+    faults = λ decisive one all unmet at fault is. absurd cc;
     no_overflow = λ counted none unmet. none;
     price = λ counted none met. absurd cc;
     enclosed = λ goals all none. none;
@@ -82,55 +75,54 @@ module _ {D C V P F I R A T : Type 0} (G : DelegateOf D C V P F I R A T) (X : Cx
       only (suc n) found is = absurd cc
 
   -- one more query
-  pub limits_more : (queries : List (ℕ × I × PathKind)) (query : ℕ × I × PathKind) (old mid new : Cache C I R A T) (before between now : ℕ) (answers_old answers : List (Result (Answer R) (Fault I R))) (answer : Result (Answer R) (Fault I R))
-      → mid.cx ≡ old.cx → before ≤ between → between ≤ now → HasLimits G X same queries old mid before between answers_old answers → HasLimits G X same (query ∷ []) mid new between now [] (answer ∷ [])
-      → HasLimits G X same (queries ++ query ∷ []) old new before now answers_old (answers ++ answer ∷ [])
-  limits_more queries query old mid new before between now answers_old answers answer context from to first second = record {
-    met = first.met || second.met;
+  pub limits_more : (queries : List (ℕ × I × PathKind)) (query : ℕ × I × PathKind) (old mid new : Cache C I R A T) (before between now : ℕ) (answers : List (Result (Answer R) (Fault I R))) (answer : Result (Answer R) (Fault I R)) (met later : Bool)
+      → mid.cx ≡ old.cx → before ≤ between → between ≤ now → HasLimits G X same met queries old mid before between answers → HasLimits G X same later (query ∷ []) mid new between now (answer ∷ [])
+      → HasLimits G X same (met || later) (queries ++ query ∷ []) old new before now (answers ++ answer ∷ [])
+  limits_more queries query old mid new before between now answers answer met later context from to first second = record {
     decisive = λ decisive all unmet.
-        let each = neither_of first.met second.met unmet in
+        let each = neither_of met later unmet in
         second.decisive (moved decisive) (first.decisive decisive all each.0) each.1;
-    decided = λ decisive all unmet at given beyond is.
-        let each = neither_of first.met second.met unmet in
+    decided = λ decisive all unmet at given is.
+        let each = neither_of met later unmet in
         elim (at_or_last answers answer at (Ok given) is) [
-          | inl there ↦ first.decided decisive all each.0 at given beyond there
-          | inr same_answer ↦ second.decided (moved decisive) (first.decisive decisive all each.0) each.1 0 given (omega arith) (ap Some same_answer)
+          | inl there ↦ first.decided decisive all each.0 at given there
+          | inr same_answer ↦ second.decided (moved decisive) (first.decisive decisive all each.0) each.1 0 given (ap Some same_answer)
         ];
-    faults = λ decisive one all unmet at fault beyond is.
-        let each = neither_of first.met second.met unmet in
+    faults = λ decisive one all unmet at fault is.
+        let each = neither_of met later unmet in
         elim (at_or_last answers answer at (Err fault) is) [
-          | inl there ↦ first.faults decisive one all each.0 at fault beyond there
-          | inr same_answer ↦ second.faults (moved decisive) one (first.decisive decisive all each.0) each.1 0 fault (omega arith) (ap Some same_answer)
+          | inl there ↦ first.faults decisive one all each.0 at fault there
+          | inr same_answer ↦ second.faults (moved decisive) one (first.decisive decisive all each.0) each.1 0 fault (ap Some same_answer)
         ];
     no_overflow = λ counted none unmet.
-        let each = neither_of first.met second.met unmet in
+        let each = neither_of met later unmet in
         second.no_overflow counted (first.no_overflow counted none each.0) each.1;
-    price = λ counted none met. pays counted none first.met refl met;
+    price = λ counted none is. pays counted none met refl is;
     enclosed = λ goals all none.
         let each = each_of (λ q. IsEnclosed (G.script old.cx) goals q.0 q.1) queries query all in
         second.enclosed goals (alone goals each.1) (first.enclosed goals each.0 none);
-    by_runs = λ goals all none counted met. pays_runs goals all none counted first.met refl met;
+    by_runs = λ goals all none counted is. pays_runs goals all none counted met refl is;
   }
     where
       alone : (goals : List I) → IsEnclosed (G.script old.cx) goals query.0 query.1 → AreEnclosed G X same mid.cx goals (query ∷ [])
       alone goals e = subst (λ cx. AreEnclosed G X same cx goals (query ∷ [])) (sym context) (All-cons (λ q. IsEnclosed (G.script old.cx) goals q.0 q.1) query [] e (All-nil (λ q. IsEnclosed (G.script old.cx) goals q.0 q.1)))
 
-      pays_runs : (goals : List I) → AreEnclosed G X same old.cx goals (queries ++ query ∷ []) → HaveNoOverflowOf (Contains goals) same old.results → G.counts ≡ true → (b : Bool) → first.met ≡ b → (first.met || second.met) ≡ true → HasCounted G.last before now (max 1 G.FIXPOINT_STEP_LIMIT)
-      pays_runs goals all none counted true is met =
+      pays_runs : (goals : List I) → AreEnclosed G X same old.cx goals (queries ++ query ∷ []) → HaveNoOverflowOf (Contains goals) same old.results → G.counts ≡ true → (b : Bool) → met ≡ b → (met || later) ≡ true → HasCounted G.last before now (max 1 G.FIXPOINT_STEP_LIMIT)
+      pays_runs goals all none counted true is any =
           let each = each_of (λ q. IsEnclosed (G.script old.cx) goals q.0 q.1) queries query all in
           counted_over G.last before before between now (max 1 G.FIXPOINT_STEP_LIMIT) (le_refl before) to (first.by_runs goals each.0 none counted is)
-      pays_runs goals all none counted false is met =
+      pays_runs goals all none counted false is any =
           let each = each_of (λ q. IsEnclosed (G.script old.cx) goals q.0 q.1) queries query all in
           counted_over G.last before between now now (max 1 G.FIXPOINT_STEP_LIMIT) from (le_refl now)
-          (second.by_runs goals (alone goals each.1) (first.enclosed goals each.0 none) counted (ap (λ b. b || second.met) (sym is) ∙ met))
+          (second.by_runs goals (alone goals each.1) (first.enclosed goals each.0 none) counted (ap (λ b. b || later) (sym is) ∙ any))
 
       moved : IsDecisive (verdicts X) (G.script old.cx) → IsDecisive (verdicts X) (G.script mid.cx)
       moved decisive = subst (λ cx. IsDecisive (verdicts X) (G.script cx)) (sym context) decisive
 
-      pays : G.counts ≡ true → HaveNoOverflow same old.results → (b : Bool) → first.met ≡ b → (first.met || second.met) ≡ true → HasPaid G X same (queries ++ query ∷ []) before now
-      pays counted none true is met = paid_later queries query before between now to (first.price counted none is)
-      pays counted none false is met =
-          paid_now queries query before between now from (second.price counted (first.no_overflow counted none is) (ap (λ b. b || second.met) (sym is) ∙ met))
+      pays : G.counts ≡ true → HaveNoOverflow same old.results → (b : Bool) → met ≡ b → (met || later) ≡ true → HasPaid G X same (queries ++ query ∷ []) before now
+      pays counted none true is any = paid_later queries query before between now to (first.price counted none is)
+      pays counted none false is any =
+          paid_now queries query before between now from (second.price counted (first.no_overflow counted none is) (ap (λ b. b || later) (sym is) ∙ any))
 
 -- what holds of the only answer, if it is one
 pub only_answer : {R E : Type 0} (r : Result (Answer R) E) (P : Answer R → Type 0) → IfOk r P → (at : ℕ) (answer : Answer R) → slice_get (r ∷ []) at ≡ Some (Ok answer) → P answer
@@ -141,8 +133,3 @@ only_answer r P h (suc n) answer is = absurd cc
 pub only_fault : {A E : Type 0} (r : Result A E) (P : E → Type 0) → IfErr r P → (at : ℕ) (fault : E) → slice_get (r ∷ []) at ≡ Some (Err fault) → P fault
 only_fault r P h zero fault is = let same : r ≡ Err fault = cc in subst (λ s. IfErr s P) same h
 only_fault r P h (suc n) fault is = absurd cc
-
--- and of both
-pub only_is : {A E : Type 0} (P : A → Type 0) (Q : E → Type 0) (r : Result A E) → IfOk r P → IfErr r Q → (at : ℕ) (answer : Result A E) → slice_get (r ∷ []) at ≡ Some answer → IfOk answer P × IfErr answer Q
-only_is P Q r h k zero answer is = let same : r ≡ answer = cc in subst (λ s. IfOk s P × IfErr s Q) same (h, k)
-only_is P Q r h k (suc n) answer is = absurd cc

@@ -1,9 +1,7 @@
 -- What a call promises as it ends or stops.
-use Rattle.std.proofs.Common.{◌≡◌, ℕ, ◌+◌, ◌≤◌, if◌then◌else◌, Bool, true, false, Option, None, Some, Result, Ok, IfSome, inl, inr, refl, sym, ap, ◌∙◌, subst}
+use Rattle.std.proofs.Common.{◌≡◌, ℕ, ◌+◌, ◌≤◌, if◌then◌else◌, Bool, true, false, Option, inl, inr, refl, ap, ◌∙◌, subst}
 use Rattle.open_graphs.specs.Graph as theory
-use Rattle.search_graph.specs.Below.{Cache, Decides, IsDefinite, IsProved, IsRefuted, NodeId, verdicts, Hit, DelegateOf, CxOf, Fault, IsPlainTo, IsPlainValue, frames_within, IsPaid, HasCounted, Call, CallIsEnclosed, runs, HasEnded, HasStopped}
-use Rattle.search_context.specs.declared.context.Answer.{Answer}
-use Rattle.search_graph.specs.Words.{Graph}
+use Rattle.search_graph.specs.Below.{Cache, Decides, IsDefinite, IsProved, IsRefuted, NodeId, verdicts, DelegateOf, CxOf, Fault, IsPlainTo, IsPlainValue, frames_within, IsPaid, HasCounted, Call, CallIsEnclosed, runs, HasEnded, HasStopped}
 
 module _ {D C V P F I R A T : Type 0} (G : DelegateOf D C V P F I R A T) (X : CxOf C I R A T) (cx : C) (call : Call I) (now : ℕ) (met : Bool) where
   pub ended_plain : (r : R) → HasEnded G X cx call r now met → (n : ℕ) → IsPlainTo (G.script cx) n call.top → n ≤ call.root → IsPlainValue (G.script cx) n call.top r
@@ -47,12 +45,3 @@ definite_decides G X cache goal r node proved refuted definite = record {
     no_at true fails is_yes is_no never = absurd (never is_yes)
     no_at false true is_yes is_no never = is_no
     no_at false false is_yes is_no never = absurd (definite (ap (λ b. verdict_at b (X.is_no r)) is_yes ∙ ap (verdict_at false) is_no))
-
--- a graph at this depth
-abbrev pub graph_at : ℕ → Bool → Graph
-graph_at root met = record { root_depth = root; limits_met = met }
-
--- a stored result that answers the call changes nothing
-pub call_is_stored : {C I R A T Let Plain : Type 0} (first : Option (Hit I R T)) (root starts now : ℕ) (was met : Bool) (old new : Cache C I R A T) (made told : Result (Answer R) (Fault I R)) → made ≡ told → (Let → Plain → IfSome first (λ hit. (made ≡ Ok (record { result = hit.result; node = hit.node })) × (now ≡ starts) × (met ≡ was) × (new ≡ old))) → Let → Plain → IfSome first (λ hit. (told ≡ Ok (record { result = hit.result; node = hit.node })) × (now ≡ starts) × (graph_at root met ≡ graph_at root was) × (new ≡ old))
-call_is_stored None root starts now was met old new made told is h = λ used plain. tt
-call_is_stored (Some hit) root starts now was met old new made told is h = λ used plain. let all = h used plain in (sym is ∙ all.0, all.1, ap (graph_at root) all.2, all.3)

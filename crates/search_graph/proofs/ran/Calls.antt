@@ -1,13 +1,11 @@
 -- What follows of a whole call, turn by turn.
-use Rattle.std.proofs.Common.{◌≡◌, ◌≢◌, ◌∙◌, ◌<◌, ◌^◌, ℕ, Bool, false, [], length, List, None, Result, Ok, Err, IfOk, IfErr, OnErr, OnOk, refl, sym, subst, arith}
+use Rattle.std.proofs.Common.{◌≡◌, ◌≢◌, ◌∙◌, ◌<◌, ◌^◌, ℕ, Bool, false, [], length, List, None, Result, Ok, Err, IfOk, IfErr, OnOk, refl, sym, subst, arith}
 use Rattle.run_records.specs.declared.runs.Fate.{Fate}
 use Rattle.run_records.specs.declared.runs.Fate.TheVariants as becomes
 use Rattle.between_moves.proofs.Keeping.{appending_keeps, cache_stays}
-use Rattle.between_moves.specs.Settled.{IsSettledStore, Settles, SettlesNext}
 use Rattle.search_context.specs.declared.context.Answer.{Answer}
-use Rattle.search_graph.proofs.ran.Laws.{AreLaws}
-use Rattle.search_graph.proofs.ran.Turns.{turned_cache, turned_caused, turned_drafts, turned_goals, turned_leads, turned_leaves, turned_left, turned_right, turned_settles, turned_stops, turned_unmet}
-use Rattle.search_graph.proofs.requests.SettledSteps.{begins_settles, begins_unmet}
+use Rattle.search_graph.specs.Laws.{AreLaws}
+use Rattle.search_graph.proofs.ran.Turns.{turned_cache, turned_caused, turned_drafts, turned_goals, turned_leads, turned_left, turned_right, turned_stops}
 use Rattle.search_graph.proofs.turns.Beginning.{begins_right, begins_waiting, never_pushed}
 use Rattle.search_graph.proofs.turns.KeptFates.{first_fates, not_stored, only_meets, only_stores, then_fates, then_recorded, then_spared}
 use Rattle.search_graph.proofs.turns.Loops.{call_of, only_has_graph, only_one, some_call_begins}
@@ -16,17 +14,14 @@ use Rattle.search_graph.specs.Below.{AreFrom, AreRuns, AreSoundResults, Awaits, 
 use Rattle.search_graph.specs.Calls.{Evaluates, IsGrounded, IsOfFate, MovesGoals, Spares}
 use Rattle.search_graph.specs.Fates.{KeepsFates}
 use Rattle.search_graph.specs.Ran.{Began, ended, IfEnd, IfStep, NotBegun, Ran, Then, Turned}
-use Rattle.search_graph.specs.Settled.{EndsSettled}
 use Rattle.search_graph.specs.Worked.{WorksOut}
 use Rattle.search_graph.specs.Turns.{HasDrafts, IsAtOutset, IsRightTurn, KeepsDrafts}
 use Rattle.search_rules.proofs.records.EarlierNodes.{stay_pushed}
-use Rattle.search_rules.specs.Settled.{CallNeedsTwoRuns}
-use Rattle.search_rules.specs.Words.{IsLone}
 use Rattle.search_state.specs.Drafts.{LeavesReached}
 use Rattle.search_state.specs.declared.evaluation.Evaluation.{Evaluation}
 
 -- what holds of what comes next holds of the reply, if it is one, and of the answer
-step_of : {R E : Type 0} (result : Result (Next R) E) (Q : Next R → Type 0) (P : Received R → Type 0) → IfOk result Q → ((given : Received R) → Q (Step given) → P given) → IfStep result P
+pub step_of : {R E : Type 0} (result : Result (Next R) E) (Q : Next R → Type 0) (P : Received R → Type 0) → IfOk result Q → ((given : Received R) → Q (Step given) → P given) → IfStep result P
 step_of (Ok (Step given)) Q P h from = from given h
 step_of (Ok (Finished answer)) Q P h from = tt
 step_of (Err fault) Q P h from = tt
@@ -46,17 +41,6 @@ step_if : {R E Q P : Type 0} (result : Result (Next R) E) → OnOk result Q → 
 step_if (Ok (Step given)) h from = from h
 step_if (Ok (Finished answer)) h from = tt
 step_if (Err fault) h from = tt
-
--- the call has come to its end, with an answer or a fault, and then this holds
-abbrev HasCome : {R E : Type 0} → Result (Next R) E → Type 0 → Type 0
-HasCome (Ok (Step given)) P = Unit {0}
-HasCome (Ok (Finished answer)) P = P
-HasCome (Err fault) P = P
-
-come_either : {R E : Type 0} (result : Result (Next R) E) (Q : Next R → Type 0) (P : Type 0) → IfOk result Q → ((answer : Answer R) → Q (Finished answer) → P) → OnErr result P → HasCome result P
-come_either (Ok (Step given)) Q P h from fails = tt
-come_either (Ok (Finished answer)) Q P h from fails = from answer h
-come_either (Err fault) Q P h from fails = fails
 
 -- a turn, told of a context that its cache has, too
 module _ {D C V P F I R A T : Type 0} {G : DelegateOf D C V P F I R A T} {X : CxOf C I R A T} {same : I → I → Bool} {same_result : R → R → Bool} {noop : Bool} (laws : AreLaws G X same same_result) {cx : C} {given : Received R} {mid : Cache C I R A T} {between : Evaluation D C V P F I R A T} {now : ℕ} (context : mid.cx ≡ cx)
@@ -87,21 +71,6 @@ module _ {D C V P F I R A T : Type 0} {G : DelegateOf D C V P F I R A T} {X : Cx
       stops_over =
           subst (λ c. IsRightFor G X same c given mid between → Awaits G X same c call given mid between now → IfErr result (λ fault. StopsWith G X same c call fault new after later)) context
           (λ here there. turned_stops laws here call there turned) right awaits
-
-      -- no limit is met, stored results are settled
-      record TurnsSettled (c : C) : Type 0 where
-        pub unmet : after.limits_met ≡ false
-        pub settles : IfOk result (λ next. SettlesNext G X same c call next new after)
-        pub leaves : OnErr result (IsSettledStore G X same c call.goals new.nodes new.results)
-
-      settled_over : CallNeedsTwoRuns G X cx call noop → Settles G X same cx call given mid between → TurnsSettled cx
-      settled_over needs settles =
-          subst (λ c. IsRightFor G X same c given mid between → Awaits G X same c call given mid between now → CallNeedsTwoRuns G X c call noop → Settles G X same c call given mid between → TurnsSettled c) context
-          (λ here there needed s. record {
-            unmet = turned_unmet laws here call there needed s turned;
-            settles = turned_settles laws here call there needed s turned;
-            leaves = turned_leaves laws here call there needed s turned;
-          }) right awaits needs settles
 
 -- what a call has kept so far of the cache, and the drafts, as long as it goes on
 pub record IsKept {D C V P F I R A T : Type 0} (same : I → I → Bool) (old : Cache C I R A T) (goals : List (OpenGoal C F I R A T)) (result : Result (Next R) (Fault I R)) (new : Cache C I R A T) (after : Evaluation D C V P F I R A T) : Type 0 where
@@ -289,36 +258,6 @@ module _ {D C V P F I R A T : Type 0} {G : DelegateOf D C V P F I R A T} {X : Cx
         → work_left G X old.cx after.goals < work_left G X old.cx between.goals
     ran_falls turned = (then_leads (some_call goal e starts outset.new.fits) (some_call_begins G X old.cx same goal e.root_depth.0 starts e.limits_met outset.new.fits old.results) ran turned).leads.falls
 
-  -- ---- where two runs of a goal are enough
-
-  module _ (is_stored : fate ≡ becomes.Stored) (not_lone : IsLone same old.results goal → ⊥) (call : Call I) (at : Begins G X old.cx same call goal e.root_depth.0 starts e.limits_met old.results) (needs : CallNeedsTwoRuns G X old.cx call noop) (settled : IsSettledStore G X same old.cx call.goals old.nodes old.results) where
-    ran_settles :
-        {result : Result (Next R) (Fault I R)} {new : Cache C I R A T} {after : Evaluation D C V P F I R A T} {later : ℕ} → Ran G X same same_result noop kind goal fate old e starts result new after later
-        → IfStep result (λ given. Settles G X same old.cx call given new after)
-    ran_settles (Began goals nodes later pushes fates nodes_kept one counted) =
-        begins_settles G X same laws.by_value laws.own old.cx kind goal old e outset.new e.root_depth goals nodes pushes fate fates sound is_stored not_lone call (begins_unmet G X old.cx call noop goal e.root_depth.0 starts e.limits_met needs at.outset) settled
-    ran_settles (NotBegun goals later least one) = tt
-    ran_settles (Then given mid between now result new after later ran turned) =
-        step_of result (λ next. SettlesNext G X same old.cx call next new after) _
-        (settled_over laws (ran_keeps ran).context turned (ran_right ran) call (ran_waits call at ran) needs (ran_settles ran)).settles
-        (λ next on. on)
-
-    pub ran_unmet :
-        {result : Result (Next R) (Fault I R)} {new : Cache C I R A T} {after : Evaluation D C V P F I R A T} {later : ℕ} → Ran G X same same_result noop kind goal fate old e starts result new after later → after.limits_met ≡ false
-    ran_unmet (Began goals nodes later pushes fates nodes_kept one counted) = begins_unmet G X old.cx call noop goal e.root_depth.0 starts e.limits_met needs at.outset
-    ran_unmet (NotBegun goals later least one) = begins_unmet G X old.cx call noop goal e.root_depth.0 starts e.limits_met needs at.outset
-    ran_unmet (Then given mid between now result new after later ran turned) =
-        (settled_over laws (ran_keeps ran).context turned (ran_right ran) call (ran_waits call at ran) needs (ran_settles ran)).unmet
-
-    pub ran_settled :
-        {result : Result (Next R) (Fault I R)} {new : Cache C I R A T} {after : Evaluation D C V P F I R A T} {later : ℕ} → Ran G X same same_result noop kind goal fate old e starts result new after later
-        → HasCome result (IsSettledStore G X same old.cx call.goals new.nodes new.results)
-    ran_settled (Began goals nodes later pushes fates nodes_kept one counted) = tt
-    ran_settled (NotBegun goals later least one) = settled
-    ran_settled (Then given mid between now result new after later ran turned) =
-        let turns = settled_over laws (ran_keeps ran).context turned (ran_right ran) call (ran_waits call at ran) needs (ran_settles ran) in
-        come_either result (λ next. SettlesNext G X same old.cx call next new after) _ turns.settles (λ answer on. on) turns.leaves
-
 -- ---- what is promised of a call that has ended, for its own kind of results
 
 module _ {D C V P F I R A T : Type 0} {G : DelegateOf D C V P F I R A T} {X : CxOf C I R A T} {same : I → I → Bool} {same_result : R → R → Bool} {noop : Bool} (laws : AreLaws G X same same_result) {kind : PathKind} {goal : I} {fate : Fate R} {old : Cache C I R A T} {e : Evaluation D C V P F I R A T} {starts : ℕ}
@@ -342,22 +281,9 @@ module _ {D C V P F I R A T : Type 0} {G : DelegateOf D C V P F I R A T} {X : Cx
     left = ran_left laws outset are_runs sound ran;
   }
 
-  call_ends_settled :
-      (result : Result (Answer R) (Fault I R)) → Ran G X same same_result noop kind goal fate old e starts (ended result) new after later → fate ≡ becomes.Stored → (IsLone same old.results goal → ⊥)
-      → EndsSettled G X same old.cx noop goal old e starts result new after
-  call_ends_settled (Ok answer) ran is_stored not_lone = record {
-    unmet = λ call at needs settled. ran_unmet laws outset are_runs sound is_stored not_lone call at needs settled ran;
-    settles = λ call at needs settled. ran_settled laws outset are_runs sound is_stored not_lone call at needs settled ran;
-  }
-  call_ends_settled (Err fault) ran is_stored not_lone = record {
-    unmet = λ call at needs settled. ran_unmet laws outset are_runs sound is_stored not_lone call at needs settled ran;
-    settles = λ call at needs settled. ran_settled laws outset are_runs sound is_stored not_lone call at needs settled ran;
-  }
-
   pub works_out : (result : Result (Answer R) (Fault I R)) → Ran G X same same_result noop kind goal fate old e starts (ended result) new after later → WorksOut G X same noop goal fate old e starts result new after later
   works_out result ran = record {
     evaluates = call_evaluates result ran;
-    settled = call_ends_settled result ran;
     spares = ran_spares laws outset are_runs sound fated ran;
     grounded = call_is_grounded result ran;
     keeps = ran_keeps laws outset are_runs sound ran;

@@ -1,5 +1,5 @@
 -- What follows of a move: the call goes on or stops, all stays right, and what becomes of goals, cache and drafts.
-use Rattle.std.proofs.Common.{◌∙◌, ℕ, Bool, List, Result, Ok, Err, IfOk, IfErr, OnErr, OnOk, refl, subst}
+use Rattle.std.proofs.Common.{◌∙◌, ℕ, Bool, List, Result, Ok, Err, IfOk, IfErr, OnOk, refl, subst}
 use Rattle.between_moves.proofs.Keeping.{cache_stays, later_keeps, stay_then}
 use Rattle.graph_nodes.proofs.Finished.{KeepsFinished-same}
 use Rattle.global_cache.proofs.Stores.{KeepsResults-same}
@@ -7,7 +7,7 @@ use Rattle.search_ends.proofs.moves.Ended.{ended_cache, ended_goes_on, ended_lea
 use Rattle.search_ends.proofs.moves.EndedGoals.{led_fates, led_from}
 use Rattle.search_ends.proofs.results.Causes.{memory_lasts}
 use Rattle.search_ends.specs.Storing.{HasLastingCause}
-use Rattle.search_graph.proofs.ran.Laws.{AreLaws}
+use Rattle.search_graph.specs.Laws.{AreLaws}
 use Rattle.search_graph.proofs.requests.Advancing.{requests, step_stops, stepped_right}
 use Rattle.search_graph.proofs.requests.Noted.{noted_is_justified, noting_goes_on, noting_keeps_free}
 use Rattle.search_graph.proofs.turns.Causes.{step_has_cause, step_keeps_free}
@@ -30,11 +30,7 @@ use Rattle.search_state.specs.Drafts.{KeepsNoted}
 use Rattle.search_state.specs.declared.drafts.Drafts.{Drafts}
 use Rattle.search_state.specs.declared.evaluation.Evaluation.{Evaluation}
 
--- what follows from a fault, or from an answer, holds if there is one
-pub on_err_if : {V E P : Type 0} (r : Result V E) (Q : E → Type 0) → IfErr r Q → ((fault : E) → Q fault → P) → OnErr r P
-on_err_if (Ok v) Q h from = tt
-on_err_if (Err fault) Q h from = from fault h
-
+-- what follows from an answer holds if there is one
 pub on_ok_if : {V E P : Type 0} (r : Result V E) (Q : V → Type 0) → IfOk r Q → ((v : V) → Q v → P) → OnOk r P
 on_ok_if (Ok v) Q h from = from v h
 on_ok_if (Err fault) Q h from = tt

@@ -1,17 +1,14 @@
 -- What follows of a turn, which is a move after which nodes are let go: the same as of the move.
-use Rattle.std.proofs.Common.{◌≡◌, ◌≢◌, ◌∙◌, ℕ, Bool, false, None, Result, IfOk, IfErr, OnErr, OnOk, refl, sym, ap, subst}
-use Rattle.between_moves.specs.Settled.{IsSettledStore, Settles, SettlesNext}
-use Rattle.search_graph.proofs.ran.Laws.{AreLaws}
+use Rattle.std.proofs.Common.{◌≡◌, ◌≢◌, ◌∙◌, ℕ, Bool, None, Result, IfOk, IfErr, OnOk, refl, sym, subst}
+use Rattle.search_graph.specs.Laws.{AreLaws}
 use Rattle.search_graph.proofs.ran.Moves.{advanced_cache, advanced_goals, advanced_lasts, advanced_leads, advanced_noted, advanced_right, advanced_stops}
-use Rattle.search_graph.proofs.ran.SettledMoves.{advanced_leaves, advanced_settles, advanced_unmet}
 use Rattle.search_graph.proofs.turns.Causes.{cause_stays_at_end}
-use Rattle.search_graph.proofs.turns.Turns.{end_leads, end_right, end_stops, fault_stops, memory_stops, noted_of, turn_before, turn_has, turn_keeps, turn_leads, turn_right, turn_settles}
+use Rattle.search_graph.proofs.turns.Turns.{end_leads, end_right, end_stops, fault_stops, memory_stops, noted_of, turn_before, turn_has, turn_keeps, turn_leads, turn_right}
 use Rattle.search_graph.specs.Below.{AreFrom, Awaits, Cache, Call, CxOf, DelegateOf, Fault, IsCaused, IsFated, IsRightFor, IsWaiting, KeepsFirst, LeadsTo, Memory, Next, OutOfMemory, Received, StopsWith, work_left}
 use Rattle.search_graph.specs.Calls.{MovesGoals}
 use Rattle.search_graph.specs.Ran.{Advanced, Answered, Failed, FailedForGood, GoesOn, NotAnswered, Turned}
 use Rattle.search_graph.specs.Turns.{HasDrafts, IsRightTurn, KeepsDrafts, TurnsCache}
-use Rattle.search_questions.proofs.nodes.LettingGo.{noted_stay, store_stays_at_end}
-use Rattle.search_rules.specs.Settled.{CallNeedsTwoRuns}
+use Rattle.search_questions.proofs.nodes.LettingGo.{noted_stay}
 use Rattle.graph_nodes.specs.Collected.{StayBefore}
 use Rattle.search_state.specs.Drafts.{AreNotedNodes, LeavesReached}
 use Rattle.search_state.specs.declared.evaluation.Evaluation.{Evaluation}
@@ -68,41 +65,6 @@ module _ {D C V P F I R A T : Type 0} {G : DelegateOf D C V P F I R A T} {X : Cx
     turned_caused call waiting (Failed fault mid new between after later advanced goes is) =
         cause_stays_at_end G X same between mid new None goes fault (advanced_lasts laws right call waiting advanced)
     turned_caused call waiting (FailedForGood fault new between after later advanced is) = OutOfMemory refl
-
-    -- ---- where two runs of a goal are enough
-
-    module _ (call : Call I) (h : Awaits G X same old.cx call received old e starts) (needs : CallNeedsTwoRuns G X old.cx call noop) (s : Settles G X same old.cx call received old e) where
-      pub turned_unmet :
-          {result : Result (Next R) (Fault I R)} {new : Cache C I R A T} {after : Evaluation D C V P F I R A T} {later : ℕ} → Turned G X same same_result noop received old e starts result new after later → after.limits_met ≡ false
-      turned_unmet (GoesOn given mid new between after later advanced goes is first stored) =
-          ap (λ (a : Evaluation D C V P F I R A T). a.limits_met) is ∙ advanced_unmet laws right call h needs s advanced
-      turned_unmet (Answered answer mid new after later advanced goes) = advanced_unmet laws right call h needs s advanced
-      turned_unmet (NotAnswered answer new after later advanced) = advanced_unmet laws right call h needs s advanced
-      turned_unmet (Failed fault mid new between after later advanced goes is) =
-          ap (λ (a : Evaluation D C V P F I R A T). a.limits_met) is ∙ advanced_unmet laws right call h needs s advanced
-      turned_unmet (FailedForGood fault new between after later advanced is) =
-          ap (λ (a : Evaluation D C V P F I R A T). a.limits_met) is ∙ advanced_unmet laws right call h needs s advanced
-
-      pub turned_settles :
-          {result : Result (Next R) (Fault I R)} {new : Cache C I R A T} {after : Evaluation D C V P F I R A T} {later : ℕ} → Turned G X same same_result noop received old e starts result new after later
-          → IfOk result (λ next. SettlesNext G X same old.cx call next new after)
-      turned_settles (GoesOn given mid new between after later advanced goes is first stored) =
-          turn_settles G X same old.cx between after mid new given goes is call (advanced_settles laws right call h needs s advanced)
-      turned_settles (Answered answer mid new after later advanced goes) =
-          store_stays_at_end G X same old.cx after mid new answer.node goes call.goals (advanced_settles laws right call h needs s advanced)
-      turned_settles (NotAnswered answer new after later advanced) = tt
-      turned_settles (Failed fault mid new between after later advanced goes is) = tt
-      turned_settles (FailedForGood fault new between after later advanced is) = tt
-
-      pub turned_leaves :
-          {result : Result (Next R) (Fault I R)} {new : Cache C I R A T} {after : Evaluation D C V P F I R A T} {later : ℕ} → Turned G X same same_result noop received old e starts result new after later
-          → OnErr result (IsSettledStore G X same old.cx call.goals new.nodes new.results)
-      turned_leaves (GoesOn given mid new between after later advanced goes is first stored) = tt
-      turned_leaves (Answered answer mid new after later advanced goes) = tt
-      turned_leaves (NotAnswered answer new after later advanced) = advanced_settles laws right call h needs s advanced
-      turned_leaves (Failed fault mid new between after later advanced goes is) =
-          store_stays_at_end G X same old.cx between mid new None goes call.goals (advanced_leaves laws right call h needs s advanced)
-      turned_leaves (FailedForGood fault new between after later advanced is) = advanced_leaves laws right call h needs s advanced
 
   -- ---- goals, cache and drafts
 

@@ -15,10 +15,6 @@ call_of input root starts met calm definite fits = record { top = input; root = 
 abbrev pub call_among : {I : Type 0} (goals : List I) (input : I) (root starts : ℕ) (met : Bool) → root < 2 ^ 64 → Call I
 call_among goals input root starts met fits = record (call_of input root starts met false false fits) { goals = goals }
 
--- the call of which it is known besides that each stored result was yes or no
-abbrev pub call_deciding : {I : Type 0} (goals : List I) (input : I) (root starts : ℕ) (met : Bool) → root < 2 ^ 64 → Call I
-call_deciding goals input root starts met fits = record (call_of input root starts met false true fits) { goals = goals }
-
 -- what had none is one of no goals
 had_none : {I : Type 0} (input : I) (root starts : ℕ) (met calm definite : Bool) (fits : root < 2 ^ 64) (goal : I) → HadNoOverflow (call_of input root starts met calm definite fits) goal → calm ≡ true
 had_none input root starts met calm definite fits goal had = elim had [ inl none ↦ none | inr among ↦ absurd (omega (arith, among.1)) ]
@@ -39,12 +35,6 @@ module _ {D C V P F I R A T : Type 0} (G : DelegateOf D C V P F I R A T) (X : Cx
   call_among_begins goals none = record {
     outset = record { same_top = refl; same_root = refl; same_starts = refl; same_limits = refl };
     store = record { overflow = λ meets goal had depth. elim had [ inl calm ↦ absurd cc | inr among ↦ none goal among depth ]; definite = λ decisive unmet. absurd cc; within = λ goal place s there. inr refl };
-  }
-
-  pub call_deciding_begins : (goals : List I) → HaveNoOverflowOf (Contains goals) same results → AreDefinite (verdicts X) same results → Begins G X cx same (call_deciding goals input root starts met fits) input root starts met results
-  call_deciding_begins goals none all = record {
-    outset = record { same_top = refl; same_root = refl; same_starts = refl; same_limits = refl };
-    store = record { overflow = λ meets goal had depth. elim had [ inl calm ↦ absurd cc | inr among ↦ none goal among depth ]; definite = λ decisive unmet. all; within = λ goal place s there. inr refl };
   }
 
   -- the call of which nothing is known

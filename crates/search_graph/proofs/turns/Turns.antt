@@ -19,10 +19,9 @@ use Rattle.search_rules.proofs.records.EarlierNodes.{first_there}
 use Rattle.search_graph.specs.Turns.{HasDrafts, IsRightTurn, TurnsCache}
 use Rattle.search_state.specs.Drafts.{AreNotedNodes, HasNoDrafts, LeavesReached}
 use Rattle.search_questions.specs.Collecting.{LetsGo, LetsGoAtEnd}
-use Rattle.between_moves.specs.Settled.{Settles}
 use Rattle.search_state.specs.declared.drafts.Drafts.{Drafts}
 use Rattle.search_state.specs.declared.evaluation.Evaluation.{Evaluation}
-use Rattle.search_questions.proofs.nodes.LettingGo.{graph_stays_at_end, right_for_stays, settles_stay}
+use Rattle.search_questions.proofs.nodes.LettingGo.{graph_stays_at_end, right_for_stays}
 
 -- ---- nodes that were there before
 
@@ -156,11 +155,6 @@ module _ {D C V P F I R A T : Type 0} (G : DelegateOf D C V P F I R A T) (X : Cx
         subst (λ a. LeadsTo G X same cx call ahead goals (Step given) new a starts) (sym is_after)
         (subst (λ c. LeadsTo G X same cx call ahead goals (Step given) c (record e { drafts = after.drafts }) starts) (sym goes.rest)
         (record { leads = h.leads; answers = h.answers; remembered = tt; compared = tt }))
-
-    pub turn_settles : (call : Call I) → Settles G X same cx call given mid e → Settles G X same cx call given new after
-    turn_settles call h =
-        let s = settles_stay G X same cx e mid new given goes call h in
-        subst (Settles G X same cx call given new) (sym is_after) (record { settling = s.settling; answer = s.answer; entries = s.entries })
 
     pub turn_right : (goals : List (OpenGoal C F I R A T)) → IsRightNext G X same cx goals (Step given) mid e → IsRightFor G X same cx given new after
     turn_right goals h =

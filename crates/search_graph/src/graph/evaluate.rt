@@ -1,12 +1,10 @@
 //! The evaluation of a goal: one loop over the goals under evaluation.
-ghost use Rattle.std.specs.Prelude.{◌≡◌, true, false, length, IfSome, Ok};
-ghost use Rattle.search_graph.specs.Below.{IsFated, first_accepted, usable, KeepsBuilder, KeepsCache, HasReply, HaveExpected, fates_of};
-ghost use Rattle.search_graph.specs.Calls.{Evaluates, IsGrounded, IsOfStored};
+ghost use Rattle.search_graph.specs.Below.{IsFated, KeepsBuilder, HasReply, HaveExpected, fates_of};
+ghost use Rattle.search_graph.specs.Called.{Evaluated};
 ghost use Rattle.search_graph.specs.Ran.{Advanced, Ran, Turned, ended};
-ghost use Rattle.search_graph.specs.Settled.{EndsSettled};
 ghost use Rattle.search_graph.specs.Turns.{HasDrafts, IsAtOutset};
-ghost use Rattle.search_graph.specs.Worked.{WorksOut};
 
+use crate::law::{is_sound, keeps_laws};
 use global_cache::GlobalCache;
 use goal_changes::Next;
 use open_goals::goals::step;
@@ -29,25 +27,9 @@ pub(crate) fn evaluate<D: Delegate>(
     inspect: &mut D::ProofTreeBuilder,
 ) -> Result<Answer<<D::Cx as Cx>::Result>, Fault<<D::Cx as Cx>::Input, <D::Cx as Cx>::Result>>
     requires outset { IsAtOutset cache.old evaluation.old }
-    ensures evaluates { Evaluates D.Delegate D.Cx.Cx D.Cx.Input.eq cache.old.cx
-        ((D.noop inspect.old ≡ true) × (D.scoped cache.old.cx input ≡ false))
-        (IsOfStored (D.noop inspect.old) (D.scoped cache.old.cx input) (first_accepted (λ _. true)
-        (usable D.Cx.Input.eq cache.old.results input evaluation.old.root_depth.0))) input
-        cache.old evaluation.old (D.starts inspect.old) result
-        cache.new evaluation.new (D.starts inspect.new) }
-    ensures settled { EndsSettled D.Delegate D.Cx.Cx D.Cx.Input.eq cache.old.cx
-        (D.noop inspect.old) input cache.old evaluation.old (D.starts inspect.old) result
-        cache.new evaluation.new }
-    ensures stored { D.noop inspect.old ≡ true → D.scoped cache.old.cx input ≡ false →
-        IfSome (first_accepted (λ _. true)
-        (usable D.Cx.Input.eq cache.old.results input evaluation.old.root_depth.0)) (λ hit.
-        (result ≡ Ok (record { result = hit.result; node = hit.node }))
-        × (D.starts inspect.new ≡ D.starts inspect.old)
-        × (evaluation.new.limits_met ≡ evaluation.old.limits_met) × (cache.new ≡ cache.old)) }
-    ensures recorded { D.noop inspect.old ≡ false → cache.new.results ≡ cache.old.results }
-    ensures grounded { IsGrounded D.Delegate D.Cx.Cx D.Cx.Input.eq input (length cache.old.nodes)
-        cache.new result }
-    ensures keeps { KeepsCache D.Cx.Input.eq evaluation.old.goals cache.old cache.new }
+    ensures evaluated { Evaluated D.Delegate D.Cx.Cx D.Cx.Input.eq D.Cx.Result.eq
+        (D.noop inspect.old) (D.noop inspect.old) step_kind input cache.old evaluation.old
+        (D.starts inspect.old) result cache.new evaluation.new (D.starts inspect.new) }
     ensures builder { KeepsBuilder D.starts D.noop inspect.old inspect.new }
 {
     let stack = evaluation.goals.stack();
@@ -90,14 +72,11 @@ pub(crate) fn work_out<D: Delegate>(
     ensures ran { Ran D.Delegate D.Cx.Cx D.Cx.Input.eq D.Cx.Result.eq (D.noop inspect.old)
         step_kind input fate cache.old evaluation.old (D.starts inspect.old) (ended result)
         cache.new evaluation.new (D.starts inspect.new) }
-    ensures worked { WorksOut D.Delegate D.Cx.Cx D.Cx.Input.eq (D.noop inspect.old) input fate
-        cache.old evaluation.old (D.starts inspect.old) result
-        cache.new evaluation.new (D.starts inspect.new) }
     ensures builder { KeepsBuilder D.starts D.noop inspect.old inspect.new }
 {
     let depth = evaluation.root_depth;
-    cache.has_runs();
-    cache.has_sound_results();
+    keeps_laws::<D>();
+    is_sound(cache);
     push_goal(evaluation, cache, step_kind, input, depth, fate, inspect)?;
     let mut received = Received::without_node(Reply::Begin);
     loop {

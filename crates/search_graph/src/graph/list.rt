@@ -1,10 +1,10 @@
 //! Queries that are answered one after another over one cache.
-ghost use Rattle.std.specs.Prelude.{◌≡◌, ◌≤◌, ◌<◌, ◌+◌, ◌∷◌, [], ℕ, All, false, max, length, vec_len, vec_capacity, OnOk, OnErr};
-ghost use Rattle.search_graph.specs.Below.{KeepsBuilder, KeepsFinished, KeepsNodes, KeepsWhole, frames_within, KeepsResults, StoresWithin};
-ghost use Rattle.search_graph.specs.Words.{HasAnswer, frames_for};
+ghost use Rattle.std.specs.Prelude.{◌≡◌, ◌≤◌, ◌<◌, ◌+◌, max, length, vec_len, vec_capacity, OnOk, OnErr};
+ghost use Rattle.search_graph.specs.Below.{KeepsBuilder};
+ghost use Rattle.search_graph.specs.Called.{HasRun};
 ghost use Rattle.search_graph.specs.Calls.{KeepsAll};
-ghost use Rattle.search_graph.specs.Lists.{AppendsEach, HasLimits, IsAnsweredQuery};
-ghost use Rattle.search_graph.specs.Settled.{TakesTwoRuns};
+ghost use Rattle.search_graph.specs.Lists.{AppendsEach, call_for, HaveRun, IsAnsweredQuery};
+ghost use Rattle.search_graph.specs.Words.{frames_for, Graph};
 
 use super::SearchGraph;
 use global_cache::GlobalCache;
@@ -46,36 +46,14 @@ impl<D: Delegate> SearchGraph<D> {
         ensures frames { D.starts inspect.new ≤ D.starts inspect.old + frames_for
             (max 1 D.FIXPOINT_STEP_LIMIT) (D.width cache.old.cx) queries.now }
 
-        ensures at_least { D.starts inspect.old ≤ D.starts inspect.new }
-        ensures same_noop { D.noop inspect.new ≡ D.noop inspect.old }
+        // What each query's call did, one after another. The laws (`search_graph::law`) say what follows.
+        ensures ran { OnOk result (HaveRun D.Delegate D.Cx.Cx D.Cx.Input.eq D.Cx.Result.eq
+            (D.noop inspect.old) queries.now cache.old cache.new (D.starts inspect.old)
+            (D.starts inspect.new) answers.old.items answers.new.items) }
 
-        // Until a limit is met, a decisive delegate's answers and stored results are yes or no, and no result is stored
-        // that met overflow; and a limit has its price in frames. Among goals that no question leads out of, with depth
-        // enough for all of them, none is refused.
-        ensures limits { OnOk result (HasLimits D.Delegate D.Cx.Cx D.Cx.Input.eq queries.now
-            cache.old cache.new (D.starts inspect.old) (D.starts inspect.new)
-            answers.old.items answers.new.items) }
-
-        // Where two runs of each goal are enough for all of the queries, as for one call, each answer is yes or no, which
-        // decides its goal, or its fault is want of memory or a request out of order. And two runs stay enough, whether
-        // there were faults or not.
-        ensures two_runs { OnOk result (TakesTwoRuns D.Delegate D.Cx.Cx D.Cx.Input.eq
-            (D.noop inspect.old) queries.now cache.old cache.new answers.old.items
-            answers.new.items) }
-
-        // Each stored result requires no more than the greatest of the depths, or as much as the one that stood in its
-        // place before.
-        ensures within { (depth : ℕ) → All (λ query. query.0 ≤ depth) queries.now →
-            StoresWithin D.Cx.Input.eq depth cache.old.results cache.new.results }
-
-        // A builder that records leaves all stored results as they were.
-        ensures recorded { D.noop inspect.old ≡ false → cache.new.results ≡ cache.old.results }
-
-        ensures same_context { cache.new.cx ≡ cache.old.cx }
-        ensures kept_results { KeepsResults D.Cx.Input.eq cache.old.results cache.new.results }
-        ensures kept { KeepsFinished cache.old.nodes cache.new.nodes }
-        ensures kept_whole { KeepsWhole cache.old.nodes cache.new.nodes }
-        ensures kept_nodes { KeepsNodes cache.old.nodes cache.new.nodes }
+        // The context stays, and so do stored results or equal ones, finished nodes, and each node's goal.
+        ensures keeps { KeepsAll D.Cx.Input.eq cache.old cache.new }
+        ensures builder { KeepsBuilder D.starts D.noop inspect.old inspect.new }
     {
         answers.reserve(queries.len())?;
         let alloc = *answers.allocator();
@@ -83,7 +61,6 @@ impl<D: Delegate> SearchGraph<D> {
             let answer = evaluate_query::<D>(alloc, cache, *query, inspect);
             answers.push_reserved(answer);
         }
-        cache.has_runs();
         Ok(())
     }
 }
@@ -95,17 +72,10 @@ fn evaluate_query<D: Delegate>(
     query: (usize, <D::Cx as Cx>::Input, PathKind),
     inspect: &mut D::ProofTreeBuilder,
 ) -> Result<Answer<<D::Cx as Cx>::Result>, Fault<<D::Cx as Cx>::Input, <D::Cx as Cx>::Result>>
-    ensures answered { HasAnswer D.Delegate D.Cx.Cx D.Cx.Input.eq cache.new query result }
-    ensures limits { HasLimits D.Delegate D.Cx.Cx D.Cx.Input.eq (query ∷ []) cache.old cache.new
-        (D.starts inspect.old) (D.starts inspect.new) [] (result ∷ []) }
-    ensures two_runs { TakesTwoRuns D.Delegate D.Cx.Cx D.Cx.Input.eq (D.noop inspect.old)
-        (query ∷ []) cache.old cache.new [] (result ∷ []) }
+    ensures ran { (left : Graph) × HasRun D.Delegate D.Cx.Cx D.Cx.Input.eq D.Cx.Result.eq
+        (call_for (D.noop inspect.old) query cache.old (D.starts inspect.old) result left cache.new
+        (D.starts inspect.new)) }
     ensures builder { KeepsBuilder D.starts D.noop inspect.old inspect.new }
-    ensures frames { D.starts inspect.new ≤ D.starts inspect.old + frames_within
-        (max 1 D.FIXPOINT_STEP_LIMIT) (D.width cache.old.cx) query.0 }
-    ensures within { StoresWithin D.Cx.Input.eq query.0 cache.old.results cache.new.results }
-    ensures recorded { D.noop inspect.old ≡ false → cache.new.results ≡ cache.old.results }
-    ensures keeps { KeepsAll D.Cx.Input.eq cache.old cache.new }
 {
     let (root_depth, input, step_kind) = query;
     let mut graph = SearchGraph::<D>::new(alloc, root_depth);

@@ -1,12 +1,14 @@
 //! A goal that is worked out whatever is stored of it, so that a builder sees all of it.
-ghost use Rattle.search_state.specs.Drafts.{LeavesReached};
-ghost use Rattle.std.specs.Prelude.{◌≡◌, ◌≢◌, ◌≤◌, ◌+◌, length, ◌∷◌, ℕ, true, false, max, [], None, IfOk, IfErr, IfSome};
+ghost use Rattle.std.specs.Prelude.{◌≡◌, ◌≤◌, ◌+◌, ℕ, true, false, max, None, IfOk, IfErr};
 ghost use Rattle.path_kinds.specs.declared.path.PathKind.TheVariants.{Inductive};
-ghost use Rattle.search_graph.specs.Below.{frames_within, HasGraph, IsCaused, IsPlainTo, IsPlainValue, IsProved, IsRefuted, IsWhole, KeepsFinished, KeepsNodes, KeepsResults, KeepsWhole, Memory, Place, StoresWithin, stored_at, verdicts};
-ghost use Rattle.search_graph.specs.Lists.{HasLimits};
+ghost use Rattle.search_graph.specs.Below.{frames_within, HasGraph, IsCaused, IsPlainTo, IsPlainValue, IsProved, IsRefuted, KeepsBuilder, Memory, verdicts};
+ghost use Rattle.search_graph.specs.Called.{HasRun};
+ghost use Rattle.search_graph.specs.Calls.{KeepsAll};
+ghost use Rattle.search_graph.specs.Words.{Graph};
 
 use super::SearchGraph;
 use super::evaluate::work_out;
+use crate::law::{is_sound, keeps_laws};
 use global_cache::GlobalCache;
 use path_kinds::path::PathKind;
 use run_records::runs::Fate;
@@ -38,34 +40,12 @@ impl<D: Delegate> SearchGraph<D> {
         ensures has_graph { IfOk result (λ answer.
             HasGraph (verdicts D.Cx.Cx) cache.new.nodes input answer.result answer.node) }
 
-        // So its graph is there to be handed out, and each graph that was stays so.
-        ensures whole { IfOk result (λ answer. IfSome answer.node (λ node.
-            IsWhole cache.new.nodes node.0)) }
-        ensures kept_whole { KeepsWhole cache.old.nodes cache.new.nodes }
-
         // A goal whose questions go no deeper than the root depth, and that is orderly with all goals below it,
         // answers its plain value or that memory is out.
         ensures plain { (n : ℕ) → IsPlainTo (D.script cache.old.cx) n input → n ≤ root_depth →
             IfOk result (λ answer. IsPlainValue (D.script cache.old.cx) n input answer.result) }
         ensures plain_faults { (n : ℕ) → IsPlainTo (D.script cache.old.cx) n input →
             n ≤ root_depth → IfErr result (λ fault. fault ≡ Memory) }
-
-        // Until a limit is met, a decisive delegate's answers and stored results are yes or no, and no result is stored
-        // that met overflow; and a limit has its price in frames. Among goals that no question leads out of, with depth
-        // enough for all of them, none is refused.
-        ensures limits { HasLimits D.Delegate D.Cx.Cx D.Cx.Input.eq
-            ((root_depth, input, Inductive) ∷ []) cache.old cache.new
-            (D.starts inspect.old) (D.starts inspect.new) [] (result ∷ []) }
-
-        // No goal requires more than its depth: each stored result requires no more than the root depth, or as much as
-        // the one that stood in its place before.
-        ensures within { StoresWithin D.Cx.Input.eq root_depth cache.old.results
-            cache.new.results }
-
-        // What is stored of the goal itself stays as it was. A builder that records leaves all stored results so.
-        ensures spared { (place : Place) → stored_at D.Cx.Input.eq cache.new.results input place
-            ≡ stored_at D.Cx.Input.eq cache.old.results input place }
-        ensures recorded { D.noop inspect.old ≡ false → cache.new.results ≡ cache.old.results }
 
         // A fault is want of memory, a request of some goal's script out of order, another result that is stored, or one
         // that a goal in a scope does not come to.
@@ -75,20 +55,31 @@ impl<D: Delegate> SearchGraph<D> {
         ensures frames { D.starts inspect.new ≤ D.starts inspect.old + frames_within
             (max 1 D.FIXPOINT_STEP_LIMIT) (D.width cache.old.cx) root_depth }
 
-        ensures at_least { D.starts inspect.old ≤ D.starts inspect.new }
-        ensures same_noop { D.noop inspect.new ≡ D.noop inspect.old }
-        ensures same_context { cache.new.cx ≡ cache.old.cx }
-        ensures kept_results { KeepsResults D.Cx.Input.eq cache.old.results cache.new.results }
-        ensures kept { KeepsFinished cache.old.nodes cache.new.nodes }
-        ensures kept_nodes { KeepsNodes cache.old.nodes cache.new.nodes }
+        // What the call did, move by move, on a graph that it left so. The laws (`search_graph::law`) say what follows.
+        ensures ran { (left : Graph) × HasRun D.Delegate D.Cx.Cx D.Cx.Input.eq D.Cx.Result.eq (record {
+          kind = Inductive;
+          goal = input;
+          noop = D.noop inspect.old;
+          looks_up = false;
+          before = record {
+            graph = record { root_depth = root_depth; limits_met = false };
+            cache = cache.old;
+            starts = D.starts inspect.old;
+          };
+          result = result;
+          after = record {
+            graph = left;
+            cache = cache.new;
+            starts = D.starts inspect.new;
+          };
+        }) }
 
-        // Of the nodes that the call wrote those alone are left to which the answer leads, or the node of a goal of
-        // which a result is stored. So it is after a fault, too, unless that is want of memory.
-        ensures leaves { IfOk result (λ answer.
-            LeavesReached D.Cx.Input.eq (length cache.old.nodes) answer.node cache.new) }
-        ensures leaves_at_fault { IfErr result (λ fault. fault ≢ Memory →
-            LeavesReached D.Cx.Input.eq (length cache.old.nodes) None cache.new) }
+        // The context stays, and so do stored results or equal ones, finished nodes, and each node's goal.
+        ensures keeps { KeepsAll D.Cx.Input.eq cache.old cache.new }
+        ensures builder { KeepsBuilder D.starts D.noop inspect.old inspect.new }
     {
+        keeps_laws::<D>();
+        is_sound(cache);
         let depth = AvailableDepth(root_depth);
         let drafts = Drafts::new(cache.allocator(), cache);
         let mut evaluation = Evaluation::<D>::new(cache.allocator(), depth, false, drafts);
@@ -96,7 +87,7 @@ impl<D: Delegate> SearchGraph<D> {
         let step_kind = PathKind::Inductive;
         let fate = Fate::NotStored;
         let answer = work_out::<D>(&mut evaluation, cache, step_kind, input, fate, inspect);
-        cache.has_runs();
+        is_sound(cache);
         answer
     }
 }

@@ -1,8 +1,7 @@
 -- What holds between two moves holds still when nodes are let go.
 use Rattle.std.proofs.Common.{◌≡◌, ℕ, ◌<◌, All, arith, Bool, Contains, inl, inr, List, [], ◌∷◌, ◌⊎◌, None, Option, option_map, refl, slice_get, Some, subst, sym, true, ap, ◌∙◌}
-use Rattle.std.specs.Prelude.{IsTrue}
+use Rattle.std.specs.Prelude.{Err, IsTrue, Ok, OnErr, OnOk, Result}
 use Rattle.std.specs.Option.{IfSome, IsSomeAnd}
-use Rattle.std.specs.Prelude.{Err, Ok, OnErr, OnOk, Result}
 use Rattle.std.proofs.lemmas.List.Elements.{All-contains, All-contains_itself, All-head, All-tail, All-weaker}
 use Rattle.std.proofs.lemmas.Option.{get_or_from_slice_get, slice_get-map, slice_get_within}
 use Rattle.open_goals.specs.Nodes.{HasNodes}
@@ -12,12 +11,11 @@ use Rattle.global_cache.specs.Rooted.{AreRooted}
 use Rattle.search_context.specs.Graph.{IsWalk}
 use Rattle.search_context.specs.declared.context.Edge.{Edge}
 use Rattle.search_state.proofs.nodes.Noting.{noted_cases, of_stored_stays, still_noted, target_is_noted}
-use Rattle.search_questions.specs.Below.{AreFree, Cache, CacheNode, Call, CxOf, DelegateOf, entries_at, graph_nodes_of, HasEdge, HasGraph, IsReached, NodeId, ProvisionalCacheEntry, Received, run_of, runs_of, Store, OpenGoal, StoredResult, verdicts, AreNotedNodes, IsOfStored, noted, IsRight, IsRightFor, IsSettledStore, Settles}
+use Rattle.search_questions.specs.Below.{AreFree, Cache, CacheNode, CxOf, DelegateOf, entries_at, graph_nodes_of, HasEdge, HasGraph, IsReached, NodeId, ProvisionalCacheEntry, Received, run_of, runs_of, Store, OpenGoal, StoredResult, verdicts, AreNotedNodes, IsOfStored, noted, IsRight, IsRightFor}
 use Rattle.search_questions.specs.Collecting.{HasRoots, LetsGo, LetsGoAtEnd}
 use Rattle.search_state.specs.declared.evaluation.Evaluation.{Evaluation}
 use Rattle.search_rules.specs.Live.{AreLiveResults, AreLiveRuns, IsLiveNode, IsLiveRun}
 use Rattle.search_rules.proofs.collecting.Kept.{fit_stays, free_stay, graph_stays, justified_stay, ready_stay}
-use Rattle.search_rules.proofs.collecting.Settled.{answer_stays, settled_stay, settling_stay}
 use Rattle.between_moves.proofs.LiveRoots.{live_root}
 
 -- roots that are there stay so with more
@@ -218,22 +216,8 @@ module _ {D C V P F I R A T : Type 0} (G : DelegateOf D C V P F I R A T) (X : Cx
       fits = fit_stays (verdicts X) goes.live old.nodes new.nodes goes.collected (runs_of e.goals) received.reply received.node goes.reply h.fits;
     }
 
-    pub settles_stay : (call : Call I) → Settles G X same cx call received old e → Settles G X same cx call received new e
-    settles_stay call h =
-        subst (λ cache. Settles G X same cx call received cache e) (sym goes.rest)
-        (record {
-          settling = settling_stay (verdicts X) goes.live old.nodes new.nodes goes.collected same old.results e.provisional goes.entries call e.goals e.limits_met goes.results goes.goals h.settling;
-          answer = answer_stays (verdicts X) goes.live old.nodes new.nodes goes.collected same old.results e.provisional goes.entries e.goals received.reply received.node goes.reply h.answer;
-          entries = h.entries;
-        })
-
   -- ---- at the end of a call
 
   module _ (target : Option NodeId) (goes : LetsGoAtEnd same e target old new) where
     pub graph_stays_at_end : (goal : I) (r : R) → HasGraph (verdicts X) old.nodes goal r target → HasGraph (verdicts X) new.nodes goal r target
     graph_stays_at_end goal r h = graph_stays (verdicts X) goes.live old.nodes new.nodes goes.collected goal r target goes.answer h
-
-    pub store_stays_at_end : (goals : List I) → IsSettledStore G X same cx goals old.nodes old.results → IsSettledStore G X same cx goals new.nodes new.results
-    store_stays_at_end goals h =
-        subst (IsSettledStore G X same cx goals new.nodes) (sym (ap (λ cache. cache.results) goes.rest))
-        (record { settled = settled_stay (verdicts X) goes.live old.nodes new.nodes goes.collected same old.results goals goes.results h.settled; suit = h.suit })

@@ -5,11 +5,11 @@ ghost use Rattle.graph_pages.specs.Program.{EndsShowing, ShowsAnswers};
 ghost use Rattle.graph_pages.specs.Shown.{AreShown};
 
 use crate::answer::ask;
-use delegate_parts::Builder;
+use delegate_parts::{Builder, Outcomes};
 use graph_pages::{Form, Page, Stop};
 use line_texts::read_input;
 use rule_tables::delegate::Table;
-use rule_tables::{Goal, Outcome, Rules, TableDelegate};
+use rule_tables::{Goal, Rules, TableDelegate};
 use search_context::context::{Cx, Delegate};
 use search_parts::global_cache::GlobalCache;
 use std::alloc::Global;
@@ -53,7 +53,7 @@ fn show_questions<X, D, W, P>(
     progress: P,
 ) -> Result<bool, Stop>
 where
-    X: Cx<Input = Goal, Result = Outcome>,
+    X: Outcomes<Input = Goal>,
     D: Delegate<Cx = X, ProofTreeBuilder = Builder>,
     W: Write,
     P: Progress,
@@ -68,7 +68,7 @@ where
     for (done, question) in questions.iter().enumerate() {
         let (depth, goal) = *question;
         watcher.begin(done);
-        let came = ask::<X, D, P>(alloc, cx, &mut cache, &mut watcher, depth, goal);
+        let came = ask::<X, D, P>(alloc, &mut cache, &mut watcher, depth, goal);
         all_fine &= came.is_fine();
         page.add(alloc, rules, goal, &came)?;
         page.pass_on(out)?;

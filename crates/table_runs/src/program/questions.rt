@@ -2,8 +2,9 @@
 ghost use Rattle.std.specs.Prelude.{◌≡◌, ◌≢◌, ◌⊎◌, ◌++◌, IfErr, IfOk, OnErr, OnOk};
 ghost use Rattle.answer_lines.specs.Goals.{line_told};
 ghost use Rattle.table_runs.specs.Answers.{AreAllTold, AreCountedStarts, AreFirstTold, IsAnswered};
-ghost use Rattle.table_runs.specs.Below.{HasGraph, verdicts};
+ghost use Rattle.table_runs.specs.Below.{HasGraph, IsSoundCache, verdicts};
 ghost use Rattle.line_texts.specs.Writing.{AppendsBeginning, Passes};
+ghost use Rattle.table_runs.specs.Right.{AreShown, IsRightOutcome, SomeGraphShows};
 ghost use Rattle.table_runs.specs.Told.{IsChecked, is_fine};
 
 use crate::program::shown::ShownNodes;
@@ -12,6 +13,7 @@ use delegate_parts::{Builder, Outcome};
 use line_texts::{Flush, write_bytes};
 use rule_tables::{Goal, Rules, Stop};
 use search_graph::graph::SearchGraph;
+use search_graph::law::limits::price;
 use search_parts::context::{Answer, Cx, Delegate, Fault, NoMemory};
 use search_parts::global_cache::GlobalCache;
 use search_parts::path::PathKind;
@@ -48,13 +50,13 @@ where
     W: Flush,
     // Where starts are those that the builder counts, all questions were asked in order, and their lines written.
     ensures told { AreCountedStarts D.starts D.noop → IfOk result (AreAllTold D.Delegate X.Cx
-        ⟦<Goal as PartialEq>⟧.eq checks cx rules.now (W.contents out.old) (W.contents out.new)) }
+        ⟦<Goal as PartialEq>⟧.eq ⟦<Outcome as PartialEq>⟧.eq checks cx rules.now (W.contents out.old) (W.contents out.new)) }
     ensures flushed { OnOk result (W.is_flushed out.new) }
 
     // Else a beginning of the lines of those that were asked.
     ensures beginning { AreCountedStarts D.starts D.noop →
         OnErr result (AreFirstTold D.Delegate X.Cx
-        ⟦<Goal as PartialEq>⟧.eq checks cx rules.now (W.contents out.old) (W.contents out.new)) }
+        ⟦<Goal as PartialEq>⟧.eq ⟦<Outcome as PartialEq>⟧.eq checks cx rules.now (W.contents out.old) (W.contents out.new)) }
     ensures fault { IfErr result (λ stop. (stop ≡ Stop.InputOrOutput) ⊎ (stop ≡ Stop.Memory)) }
 {
     let mut waiting = Vec::with_capacity(alloc, ROOM)?;
@@ -68,12 +70,21 @@ where
         let came = ask(
             alloc, &mut graph, &mut cache, depth, goal, checks, &mut shown,
         );
+        is_sound(&cache);
         all_fine &= came_fine(came);
         tell(out, &mut waiting, rules.name(goal).unwrap_or(b""), came)?;
     }
     write_bytes(out, waiting.as_slice())?;
     out.flush_all()?;
     Ok(all_fine)
+}
+
+// Each finished node is a run of its goal, and each stored result has its graph.
+fn is_sound<D: Delegate>(cache: &GlobalCache<D>)
+    ensures { IsSoundCache D.Cx.Input.eq (verdicts D.Cx.Cx) D.script cache.now }
+{
+    cache.has_runs();
+    cache.has_sound_results();
 }
 
 // Whether no fault was met, and no graph refused.
@@ -127,9 +138,18 @@ where
 
     // Where starts are those that the builder counts, this is the search's answer at this depth, with its frames.
     ensures answered { AreCountedStarts D.starts D.noop →
-        IsAnswered D.Delegate X.Cx ⟦<Goal as PartialEq>⟧.eq
+        IsAnswered D.Delegate X.Cx ⟦<Goal as PartialEq>⟧.eq ⟦<Outcome as PartialEq>⟧.eq
         checks cache.old (record { question = (depth, goal); came = result }) cache.new }
+
+    // By the rules alone the answer is right; and it is accepted only if a graph shows it, which is then remembered.
+    ensures right { IfOk result (λ told. IsRightOutcome X.Cx cache.old.cx goal told.outcome) }
+    ensures shown { AreShown X.Cx cache.old.cx shown.old →
+        IfOk result (λ told. told.check ≡ Check.Accepted →
+        SomeGraphShows X.Cx cache.old.cx goal told.outcome) }
+    ensures remembered { AreShown X.Cx cache.old.cx shown.old →
+        AreShown X.Cx cache.old.cx shown.new }
 {
+    price::<D>();
     graph.renew(depth);
     let mut builder = Builder::new(true);
     let answer = graph.evaluate_goal(cache, goal, PathKind::Inductive, &mut builder)?;
@@ -154,8 +174,15 @@ fn check_answer<X, D>(
 where
     X: Cx<Input = Goal, Result = Outcome>,
     D: Delegate<Cx = X, ProofTreeBuilder = Builder>,
-    ensures { HasGraph (verdicts X.Cx) cache.now.nodes goal answer.result answer.node →
+    ensures checked { HasGraph (verdicts X.Cx) cache.now.nodes goal answer.result answer.node →
         IfOk result (IsChecked (verdicts X.Cx) checks answer.result) }
+
+    // Whatever the answer rests on, it is accepted only if a graph shows it.
+    ensures shown { AreShown X.Cx cache.now.cx shown.old →
+        IfOk result (λ check. check ≡ Check.Accepted →
+        SomeGraphShows X.Cx cache.now.cx goal answer.result) }
+    ensures remembered { AreShown X.Cx cache.now.cx shown.old →
+        AreShown X.Cx cache.now.cx shown.new }
 {
     match (checks, answer.node) {
         (Checks::EachGraph, Some(node)) => {

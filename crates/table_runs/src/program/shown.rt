@@ -1,6 +1,7 @@
 //! Answers that are shown by their graphs, which are handed out and checked.
-ghost use Rattle.std.specs.Prelude.{IsTrue, IfOk, Some};
+ghost use Rattle.std.specs.Prelude.{◌≡◌, [], IsTrue, IfOk, Some};
 ghost use Rattle.table_runs.specs.Below.{IsDefinite, HasGraph, verdicts};
+ghost use Rattle.table_runs.specs.Right.{AreShown, SomeGraphShows};
 
 use delegate_parts::{Builder, Outcome};
 use graph_check::check_graph;
@@ -9,15 +10,28 @@ use search_parts::context::{Cx, Delegate, NoMemory, NodeId};
 use search_parts::global_cache::GlobalCache;
 use std::alloc::Global;
 use std::collections::HashSet;
+use std::marker::Model;
 
-/// The nodes that were shown for a goal. A finished node never changes, so none has to be shown again.
+/// The goals and outcomes that were shown, each by the graph of this node. A finished node never changes, so none has
+/// to be shown again.
 #[derive(Drop)]
 pub(crate) struct ShownNodes {
-    shown: HashSet<(Goal, NodeId)>,
+    shown: HashSet<(Goal, Outcome, NodeId)>,
+}
+
+impl Model for ShownNodes {
+    ghost use Rattle.std.specs.Prelude.{List};
+    ghost use Rattle.table_runs.specs.Below.{Goal, NodeId, Outcome};
+
+    ghost Value = { List (Goal × Outcome × NodeId) };
+
+    ghost view = { λ s. s.shown.keys };
 }
 
 impl ShownNodes {
-    pub(crate) fn new(alloc: Global) -> ShownNodes {
+    pub(crate) fn new(alloc: Global) -> ShownNodes
+        ensures { result ≡ [] }
+    {
         ShownNodes {
             shown: HashSet::new(alloc),
         }
@@ -35,18 +49,26 @@ impl ShownNodes {
     where
         X: Cx<Input = Goal, Result = Outcome>,
         D: Delegate<Cx = X, ProofTreeBuilder = Builder>,
-        ensures { HasGraph (verdicts X.Cx) cache.now.nodes goal outcome (Some node) →
+        ensures accepted { HasGraph (verdicts X.Cx) cache.now.nodes goal outcome (Some node) →
             IsDefinite (verdicts X.Cx) outcome →
             IfOk result (λ shown. IsTrue shown) }
+
+        // Whatever the node is, nothing else is shown or remembered than what the checker accepts.
+        ensures shown { AreShown X.Cx cache.now.cx self.old →
+            IfOk result (λ shown. IsTrue shown →
+            SomeGraphShows X.Cx cache.now.cx goal outcome) }
+        ensures remembered { AreShown X.Cx cache.now.cx self.old →
+            AreShown X.Cx cache.now.cx self.new }
     {
-        if self.shown.contains(&(goal, node)) {
+        let key = (goal, outcome, node);
+        if self.shown.contains(&key) {
             return Ok(true);
         }
-        let is_shown = is_shown::<X, D>(alloc, cache, goal, outcome, node)?;
-        if is_shown {
-            self.shown.insert((goal, node))?;
+        if !is_shown::<X, D>(alloc, cache, goal, outcome, node)? {
+            return Ok(false);
         }
-        Ok(is_shown)
+        self.shown.insert(key)?;
+        Ok(true)
     }
 }
 
@@ -61,9 +83,13 @@ fn is_shown<X, D>(
 where
     X: Cx<Input = Goal, Result = Outcome>,
     D: Delegate<Cx = X, ProofTreeBuilder = Builder>,
-    ensures { HasGraph (verdicts X.Cx) cache.now.nodes goal outcome (Some node) →
+    ensures accepted { HasGraph (verdicts X.Cx) cache.now.nodes goal outcome (Some node) →
         IsDefinite (verdicts X.Cx) outcome →
         IfOk result (λ shown. IsTrue shown) }
+
+    // Whatever the node is, nothing else is shown than what the checker accepts.
+    ensures shown { IfOk result (λ shown. IsTrue shown →
+        SomeGraphShows X.Cx cache.now.cx goal outcome) }
 {
     let Some(graph) = cache.graph_of(node)? else {
         return Ok(false);

@@ -1,12 +1,8 @@
-use Rattle.std.proofs.Common.{arith}
-use Rattle.shown_graphs.proofs.Reached.{are_reached}
+use Rattle.shown_graphs.proofs.Right.{neither_without_node}
 use Rattle.shown_graphs.proofs.answer.checked.Goals as goal
 use Rattle.shown_graphs.specs.Below.{verdicts}
 
-pub returns-then-branch : goal.returns-then-branch
-returns-then-branch g c =
-    let copied = rw c.in-Some-2.is at c.in_ok-graph.ensures.copied in
-    record { is_valid = c.in_ok-accepts.ensures.0 c.if-branch.true; are_reached = are_reached _ _ _ copied; count = omega (arith, c.len-count.ensures) }
-
-pub returns-in_default : goal.returns-in_default
-returns-in_default g c = c.without_graph.ensures (verdicts g.X.Cx) (g.D.Delegate.script c.args.cx) c.args.goal
+pub returns-in-None-clause-graph : goal.returns-in-None-clause-graph
+returns-in-None-clause-graph g c = λ has.
+    c.without_graph.ensures.no_graph (neither_without_node (verdicts g.X.Cx) g.met.X.Outcomes.same_verdicts c.args.cache.now.nodes c.args.goal c.args.answer.result c.args.answer.node c.in-None.is has)
+    (verdicts g.X.Cx) (g.D.Delegate.script c.args.cache.now.cx) c.args.goal

@@ -1,4 +1,4 @@
-use Rattle.std.proofs.Common.{◌≡◌, false, sym, ap, subst}
+use Rattle.std.proofs.Common.{◌≡◌, false, refl, sym, ap, subst}
 use Rattle.structural_types.specs.Below.{TwoRunsAreEnough}
 use Rattle.structural_types.proofs.ask.evaluated.Goals as goal
 
@@ -13,15 +13,14 @@ returns-clause-decided g c goals enough_runs =
     let unmet : c.renew.new.self.limits_met ≡ false = ap (λ graph. graph.limits_met) c.renew.ensures in
     let deep : c.renew.new.self.root_depth ≡ 18446744073709551615 = ap (λ graph. graph.root_depth) c.renew.ensures in
     let enough = subst (λ depth. TwoRunsAreEnough g.D.Delegate g.D.Cx.Cx g.D.Cx.Input.PartialEq.eq goals c.args.cache.now depth c.args.goal (g.D.Delegate.noop c.args.inspect.now)) (sym deep) enough_runs in
-    let never_met = c.evaluate_goal.ensures.two_runs goals enough unmet in
-    let store = c.evaluate_goal.ensures.two_runs_settle goals enough unmet in
+    let done = c.two_runs.ensures _ c.evaluate_goal.ensures.ran goals enough refl unmet in
     record {
-      answer = c.evaluate_goal.ensures.decisive enough.needs.decisive enough.definite never_met;
-      fault = c.evaluate_goal.ensures.two_runs_faults goals enough unmet;
-      definite = c.evaluate_goal.ensures.decisive_results enough.needs.decisive enough.definite never_met;
-      no_overflow = c.evaluate_goal.ensures.enclosed goals enough.needs.enclosed enough.no_overflow;
-      settled = store.settled;
-      suit = store.suit;
+      answer = c.evaluate_goal.ensures.decisive enough.needs.decisive enough.definite done.unmet;
+      fault = done.faults;
+      definite = done.definite;
+      no_overflow = done.no_overflow;
+      settled = done.settled.settled;
+      suit = done.settled.suit;
     }
 
 pub returns-clause-faults : goal.returns-clause-faults

@@ -1,6 +1,23 @@
-use Rattle.std.proofs.Common.{ap, Err, sym, ◌∙◌}
-use Rattle.rule_tables.proofs.Stops.{bad_line_by_status}
+use Rattle.rule_tables.proofs.Stops.{bad_by_status, bad_line_by_status, done_by_status, status_in_range, stopped_by_status, told_by_status}
 use Rattle.trees.proofs.program.run.Goals as goal
 
+pub returns-clause-status : goal.returns-clause-status
+returns-clause-status g c = status_in_range c.show_input-came.result _ c.status_told.ensures
+
+pub returns-clause-told : goal.returns-clause-told
+returns-clause-told g c = told_by_status _ c.show_input-came.result _ c.status_told.ensures c.show_input-came.ensures.told
+
+pub returns-clause-flushed : goal.returns-clause-flushed
+returns-clause-flushed g c = done_by_status _ c.show_input-came.result _ c.status_told.ensures c.show_input-came.ensures.flushed
+
 pub returns-clause-bad_line : goal.returns-clause-bad_line
-returns-clause-bad_line g c = λ e. bad_line_by_status _ c.in-Err.stop (λ n is. c.in-Err.ensures.bad_line n (ap Err is)) (sym c.status.ensures ∙ e)
+returns-clause-bad_line g c =
+    bad_line_by_status _ c.show_input-came.result _ c.status_told.ensures c.show_input-came.ensures.bad_line
+
+pub returns-clause-nothing_written : goal.returns-clause-nothing_written
+returns-clause-nothing_written g c =
+    bad_by_status _ c.show_input-came.result _ c.status_told.ensures c.show_input-came.ensures.nothing_written
+
+pub returns-clause-beginning : goal.returns-clause-beginning
+returns-clause-beginning g c =
+    stopped_by_status _ c.show_input-came.result _ c.status_told.ensures c.show_input-came.ensures.beginning

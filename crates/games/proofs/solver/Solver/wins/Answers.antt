@@ -14,7 +14,7 @@ invariant_of-self g c = record {
     | else-self w ↦
         let old : c.args.self.now.limits_met ≡ false = let was = w.if-self in search rules in
         let met : c.evaluate_goal-answer.new.self.limits_met ≡ false = let is = w.self-is in let told = w.limits_met-self.ensures in search rules in
-        c.evaluate_goal-answer.ensures.decisive_results (are_decisive (positions_of (g.G.LendsGame.game_of c.args.self.now.cache.cx.0.0.lender))) (c.args.self.now.decided old) met
+        c.decisive_results.ensures _ c.evaluate_goal-answer.ensures.ran (are_decisive (positions_of (g.G.LendsGame.game_of c.args.self.now.cache.cx.0.0.lender))) (c.args.self.now.decided old) met
   ];
 }
 

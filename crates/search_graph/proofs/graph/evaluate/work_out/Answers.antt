@@ -2,27 +2,9 @@ use Rattle.std.proofs.Common.{Err, None, Ok, sym, subst}
 use Rattle.search_context.proofs.Builders.{builder_goes_on}
 use Rattle.search_graph.specs.Below.{Begin, Finished, Memory, Step}
 use Rattle.search_graph.specs.Ran.{Began, ended, NotBegun, Ran, Then, Turned}
-use Rattle.search_graph.proofs.ran.Calls.{ran_drafts, ran_expected, ran_falls, ran_reply, works_out}
-use Rattle.search_graph.proofs.ran.Laws.{AreLaws}
+use Rattle.search_graph.proofs.ran.Calls.{ran_drafts, ran_expected, ran_falls, ran_reply}
 use Rattle.search_rules.proofs.moves.Questions.{same_err}
-use Rattle.search_graph.proofs.graph.evaluate.work_out.Given.{Over}
 use Rattle.search_graph.proofs.graph.evaluate.work_out.Goals as goal
-
--- the delegate keeps its laws
-laws : (g : Over) → AreLaws g.D.Delegate g.D.Cx.Cx g.D.Cx.Input.PartialEq.eq g.D.Cx.Result.PartialEq.eq
-laws g = record {
-  by_value = g.met.D.Cx.Cx.same_input;
-  own = g.met.D.Cx.Input.Eq.laws.refl;
-  own_result = g.met.D.Cx.Result.Eq.laws.refl;
-  divides = g.met.D.Delegate.divides;
-  one_sort = g.met.D.Cx.Cx.one_sort;
-  clash = g.met.D.Cx.Cx.clash;
-  yes_is_proved = g.met.D.Delegate.yes_is_proved;
-  no_is_refuted = g.met.D.Delegate.no_is_refuted;
-  initial_sort = g.met.D.Delegate.initial_sort;
-  stack_overflow = g.met.D.Delegate.stack_overflow_is_neither;
-  ambiguous = g.met.D.Delegate.ambiguous_is_neither;
-}
 
 -- ---- it is pushed
 
@@ -46,17 +28,17 @@ loop-next-init g c = record {
 -- ---- a turn is taken
 
 pub take_turn-requires-clause-reply : goal.take_turn-requires-clause-reply
-take_turn-requires-clause-reply g c = ran_reply (laws g) c.requires.outset c.has_runs.ensures c.has_sound_results.ensures c.loop-next.invariant.ran
+take_turn-requires-clause-reply g c = ran_reply c.keeps_laws.ensures c.requires.outset c.is_sound.ensures.runs c.is_sound.ensures.results c.loop-next.invariant.ran
 
 pub take_turn-requires-clause-expected : goal.take_turn-requires-clause-expected
-take_turn-requires-clause-expected g c = ran_expected (laws g) c.requires.outset c.has_runs.ensures c.has_sound_results.ensures c.loop-next.invariant.ran c.requires.fated
+take_turn-requires-clause-expected g c = ran_expected c.keeps_laws.ensures c.requires.outset c.is_sound.ensures.runs c.is_sound.ensures.results c.loop-next.invariant.ran c.requires.fated
 
 pub take_turn-requires-clause-drafts : goal.take_turn-requires-clause-drafts
-take_turn-requires-clause-drafts g c = ran_drafts (laws g) c.requires.outset c.has_runs.ensures c.has_sound_results.ensures c.loop-next.invariant.ran
+take_turn-requires-clause-drafts g c = ran_drafts c.keeps_laws.ensures c.requires.outset c.is_sound.ensures.runs c.is_sound.ensures.results c.loop-next.invariant.ran
 
 pub loop-next-smaller : goal.loop-next-smaller
 loop-next-smaller g c =
-    ran_falls (laws g) c.requires.outset c.has_runs.ensures c.has_sound_results.ensures c.loop-next.invariant.ran
+    ran_falls c.keeps_laws.ensures c.requires.outset c.is_sound.ensures.runs c.is_sound.ensures.results c.loop-next.invariant.ran
     (subst (λ b. Turned g.D.Delegate g.D.Cx.Cx g.D.Cx.Input.PartialEq.eq g.D.Cx.Result.PartialEq.eq b c.loop-next.received c.loop-next.cache c.loop-next.evaluation (g.D.Delegate.starts c.loop-next.inspect) (Ok (Step c.in-Step.next)) c.take_turn.new.cache c.take_turn.new.evaluation (g.D.Delegate.starts c.take_turn.new.inspect)) c.loop-next.invariant.builder.same_noop (rw c.in-Step.is at c.in_ok-next.ensures.turned))
 
 pub loop-next-preserved : goal.loop-next-preserved
@@ -84,12 +66,3 @@ returns-in_err-next-clause-builder g c = builder_goes_on g.D.Delegate.starts g.D
 
 pub returns-in-Finished-clause-builder : goal.returns-in-Finished-clause-builder
 returns-in-Finished-clause-builder g c = builder_goes_on g.D.Delegate.starts g.D.Delegate.noop c.args.inspect.now c.loop-next.inspect c.take_turn.new.inspect c.loop-next.invariant.builder c.take_turn.ensures.builder
-
-pub returns-in_err-push_goal-clause-worked : goal.returns-in_err-push_goal-clause-worked
-returns-in_err-push_goal-clause-worked g c = works_out (laws g) c.requires.outset c.has_runs.ensures c.has_sound_results.ensures c.requires.fated c.from_residual.result (returns-in_err-push_goal-clause-ran g c)
-
-pub returns-in_err-next-clause-worked : goal.returns-in_err-next-clause-worked
-returns-in_err-next-clause-worked g c = works_out (laws g) c.requires.outset c.has_runs.ensures c.has_sound_results.ensures c.requires.fated c.from_residual-in_err-next.result (returns-in_err-next-clause-ran g c)
-
-pub returns-in-Finished-clause-worked : goal.returns-in-Finished-clause-worked
-returns-in-Finished-clause-worked g c = works_out (laws g) c.requires.outset c.has_runs.ensures c.has_sound_results.ensures c.requires.fated (Ok c.in-Finished.answer) (returns-in-Finished-clause-ran g c)

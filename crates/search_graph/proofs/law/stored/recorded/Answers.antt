@@ -1,0 +1,5 @@
+use Rattle.search_graph.proofs.called.Stored.{run_is_recorded}
+use Rattle.search_graph.proofs.law.stored.recorded.Goals as goal
+
+pub returns : goal.returns
+returns g c = λ call ran. run_is_recorded ran

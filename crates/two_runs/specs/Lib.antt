@@ -1,0 +1,11 @@
+pub mod OneKind
+pub mod Kinds
+pub mod Apart
+pub mod Older
+pub mod Leads
+pub mod Lone
+pub mod Settled
+pub mod AtLimit
+pub mod Evaluations
+pub mod Enough
+pub mod Below
