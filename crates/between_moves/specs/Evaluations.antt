@@ -12,9 +12,10 @@ use Rattle.search_rules.specs.Justified.{AreJustified, NewestAsks, IsFit}
 use Rattle.search_rules.specs.Provisional.{AreReady}
 use Rattle.search_rules.specs.Runs.{IfFinished, KeepsEarlier, runs_of, IsJustifiedNext}
 
--- no goal is under evaluation, there are no provisional entries, and the root depth is a number of a word
+-- no goal is under evaluation, no scope is held, there are no provisional entries, and the root depth is a number of a word
 pub record IsNew {D C V P F I R A T : Type 0} (e : Evaluation D C V P F I R A T) : Type 0 where
   pub no_goals : e.goals ≡ []
+  pub no_scopes : e.scopes ≡ []
   pub no_entries : e.provisional ≡ []
   pub fits : e.root_depth.0 < 2 ^ 64
 

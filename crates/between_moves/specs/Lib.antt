@@ -1,2 +1,3 @@
 pub mod Evaluations
+pub mod Scopes
 pub mod Below

@@ -5,4 +5,5 @@
 //! | File of `specs/` | Has |
 //! |---|---|
 //! | `Evaluations` | what holds of an evaluation between two of its moves, and what the moves lead to |
+//! | `Scopes` | which goals hold a scope |
 #![tactic(auto)]

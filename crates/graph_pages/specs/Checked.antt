@@ -1,7 +1,8 @@
 -- What is known of an answer that is shown.
-use Rattle.std.specs.Prelude.{◌≡◌, ℕ, ◌<◌, ◌≤◌, ◌^◌, Err, IfErr, IfOk, length, List, Ok, Result, ⊤}
+use Rattle.std.specs.Prelude.{◌≡◌, ℕ, ◌<◌, ◌≤◌, ◌^◌, Err, IfErr, IfOk, length, List, None, Ok, Option, Result, Some, ⊤}
 use Rattle.graph_pages.specs.Below.{Goal, goal_nodes_of, IsPlainTo, IsPlainValue, IsReached, IsValidFor, Maybe, Memory, No, Node, Outcome, Overflow, Reply, Request, SearchFault, Verdict, Verdicts, Yes}
 use Rattle.search_context.specs.declared.context.Verdict.TheVariants as verdict
+use Rattle.watched_runs.specs.declared.watch.Reason.{Reason}
 use Rattle.graph_pages.specs.declared.answer.Came.{Came}
 use Rattle.graph_pages.specs.declared.answer.Came.TheVariants.{Graph, NoGraph, Unchecked, Fault}
 
@@ -28,6 +29,13 @@ outcome_of (Graph outcome nodes) = Ok outcome
 outcome_of (NoGraph outcome reason) = Ok outcome
 outcome_of (Unchecked outcome) = Ok outcome
 outcome_of (Fault fault) = Err fault
+
+-- the reason that is told of what is neither yes nor no
+abbrev pub reason_of : Came → Option Reason
+reason_of (Graph outcome nodes) = None
+reason_of (NoGraph outcome reason) = Some reason
+reason_of (Unchecked outcome) = None
+reason_of (Fault fault) = None
 
 -- what is shown of the goal is such a graph, or it came to neither yes nor no, or to a fault; a graph is never left unchecked
 abbrev pub ShowsGraph : Verdicts Outcome → (Goal → List (Reply Outcome) → Request Goal Outcome) → Goal → Came → Type 0

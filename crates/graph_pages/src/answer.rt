@@ -1,15 +1,15 @@
 //! What a question came to, and whether the graph of its answer is accepted.
-ghost use Rattle.std.specs.Prelude.{◌≡◌, ◌≢◌, ◌↔◌, IfOk, IsTrue, Ok};
+ghost use Rattle.std.specs.Prelude.{◌≡◌, ◌≢◌, ◌↔◌, IfOk, IfSome, IsTrue, Ok};
 ghost use Rattle.search_context.specs.declared.context.Verdict.TheVariants.{Neither};
 ghost use Rattle.graph_pages.specs.Below.{IsValidFor, verdicts};
-ghost use Rattle.graph_pages.specs.Checked.{ShowsNoGraph, outcome_of, verdict_of};
+ghost use Rattle.graph_pages.specs.Checked.{ShowsNoGraph, outcome_of, reason_of, verdict_of};
 
 use delegate_parts::Builder;
 use graph_check::check_graph;
 use rule_tables::{Goal, Outcome};
 use search_context::context::{Cx, Delegate, Fault, NoMemory, Node, ProofGraph};
 use std::alloc::Global;
-use watched_runs::{Progress, Reason, Watcher};
+use watched_runs::Reason;
 
 /// What a question came to.
 #[derive(Drop)]
@@ -44,18 +44,16 @@ impl Came {
     }
 }
 
-/// What the question came to where no graph comes with its outcome.
-pub fn without_graph<P: Progress>(watcher: &mut Watcher<P>, outcome: Outcome) -> Came
+/// What the question came to where no graph comes with its outcome. The reason is told of one that is neither yes nor no.
+pub fn without_graph(outcome: Outcome, reason: Reason) -> Came
     ensures outcome { outcome_of result ≡ Ok outcome }
+    ensures reason { IfSome (reason_of result) (λ told. told ≡ reason) }
     ensures no_graph { ShowsNoGraph outcome result }
     ensures unchecked { verdict_of outcome ≢ Neither → result ≡ Came.Unchecked outcome }
 {
     match outcome {
         Outcome::Yes | Outcome::No => Came::Unchecked(outcome),
-        Outcome::Maybe | Outcome::Overflow => {
-            let reason = watcher.reason(outcome);
-            Came::NoGraph { outcome, reason }
-        }
+        Outcome::Maybe | Outcome::Overflow => Came::NoGraph { outcome, reason },
     }
 }
 

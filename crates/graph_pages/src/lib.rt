@@ -6,6 +6,7 @@
 //! |---|---|
 //! | `Stop` | why a program ends early |
 //! | `Checked` | what is known of an answer that is shown |
+//! | `Reasons` | what is named of an answer that is neither yes nor no |
 //! | `Shown` | what was shown of questions |
 //! | `Told` | what is told of graphs that were read |
 //! | `Program` | what a run of each program came to, and that what one writes is accepted by the other |

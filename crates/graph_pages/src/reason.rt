@@ -1,7 +1,10 @@
 //! Why an answer is neither yes nor no, in words.
+ghost use Rattle.std.specs.Prelude.{◌≡◌, ◌↔◌, ◌⊎◌, Contains, IsTrue};
+ghost use Rattle.graph_pages.specs.Reasons.{IsAskedBy, IsNamedByRules, asking_of};
 
 use graph_texts::{letter, name_of};
-use rule_tables::{Goal, Outcome, Rules};
+use rule_tables::rules::Asking;
+use rule_tables::{Candidate, Goal, Outcome, Rules};
 use search_context::path::PathKind;
 use std::io;
 use std::io::Write;
@@ -16,12 +19,56 @@ pub(crate) fn write_reason<W: Write>(
     reason: Reason,
 ) -> io::Result<()> {
     let name = name_of(rules, goal);
-    let words = match reason {
+    let words = match by_rules(rules, reason) {
         Reason::Cut(cut) => return write_cut(out, rules, name, outcome, cut),
         Reason::Runs => "had its most runs",
         Reason::Known => "was worked out before",
+        Reason::Unnoted => "came to it for no reason that was noted",
     };
     writeln!(out, "{name} is {outcome}\n  {name} {words}")
+}
+
+// The reason, if the question that it names is one of a rule, as it is in each search.
+fn by_rules(rules: &Rules, reason: Reason) -> Reason
+    ensures named { IsNamedByRules rules.now result }
+    ensures same { IsNamedByRules rules.now reason → result ≡ reason }
+{
+    match reason {
+        Reason::Cut(cut) if !is_asked_by(rules, cut) => Reason::Unnoted,
+        _ => reason,
+    }
+}
+
+// Whether a rule of the goal that asked the question has it.
+fn is_asked_by(rules: &Rules, cut: Cut) -> bool
+    ensures { IsTrue result ↔ IsAskedBy rules.now cut.by (asking_of cut) }
+{
+    let asking = Asking {
+        kind: cut.kind,
+        goal: cut.asked,
+    };
+    let candidates = rules.candidates(cut.by);
+    for place in 0..candidates.count() {
+        let Some(candidate) = candidates.get(place) else {
+            unreachable!();
+        };
+        if has_question(&candidate, asking) {
+            return true;
+        }
+    }
+    false
+}
+
+fn has_question(rule: &Candidate<'_>, asking: Asking) -> bool
+    ensures { IsTrue result ↔ Contains rule.now.questions asking }
+{
+    let questions = rule.questions();
+    for question in questions {
+        if *question == asking {
+            return true;
+        }
+    }
+    false
 }
 
 fn write_cut<W: Write>(

@@ -1,2 +1,4 @@
+pub mod Grounds
 pub mod Plans
+pub mod Reasons
 pub mod Replay

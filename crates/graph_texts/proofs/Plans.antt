@@ -1,5 +1,5 @@
 -- A walk over a graph, one line further.
-use Rattle.std.proofs.Common.{⊎_elim, inl, inr, ◌≡◌, ◌≢◌, ◌∙◌, ◌⊎◌, ℕ, Bool, true, false, ◌&&◌, ◌||◌, List, [], ◌∷◌, ◌++◌, ap, sym, refl, rules, subst, eq-eqb, eqb-true, nat_eq, slice_set, Some, slice_get, zero, suc, replicate}
+use Rattle.std.proofs.Common.{⊎_elim, inl, inr, ◌≡◌, ◌≢◌, ◌∙◌, ◌⊎◌, ◌+◌, ◌<◌, ◌≤◌, add-one, arith, if◌then◌else◌, length, nat_le, nat_lt, None, ℕ, Bool, true, false, ◌&&◌, ◌||◌, List, [], ◌∷◌, ◌++◌, ap, sym, refl, rules, subst, eq-eqb, eqb-true, nat_eq, slice_set, Some, slice_get, zero, suc, replicate}
 use Rattle.open_graphs.proofs.Lists.{get_set_other, get_set_same}
 use Rattle.std.proofs.lemmas.Bool.{cases_Bool}
 use Rattle.std.proofs.lemmas.List.{append-nil}
@@ -8,7 +8,8 @@ use Rattle.std.proofs.lemmas.List.Folds.{list_all-append, list_any-append}
 use Rattle.std.proofs.lemmas.Map.Keys.{IsDistinct-push}
 use Rattle.std.specs.List.{IsDistinct, list_all, list_any}
 use Rattle.std.specs.Cmp.{IsEquivalence}
-use Rattle.graph_texts.specs.Plan.{is_cut, is_found, WasSeen, ShowsSeen, place_of, place_shown, places_shown}
+use Rattle.std.proofs.lemmas.Bool.Decides.{nat_tests}
+use Rattle.graph_texts.specs.Plan.{AreCutBelow, is_cut, is_cut_below, is_found, is_unseen, left_out, WasSeen, ShowsSeen, place_of, place_shown, places_shown}
 use Rattle.graph_texts.specs.declared.plan.Line.{Line}
 use Rattle.graph_texts.specs.declared.plan.Line.TheVariants.{Again, Cut, Shown}
 use Rattle.graph_texts.specs.declared.plan.Mark.{Mark}
@@ -124,3 +125,38 @@ walk_begins lines marks count none fresh =
           (λ o. let bad : Open number ≡ Unseen = all_unseen place (Open number) o in absurd (cc))
           (λ d. let bad : Done number ≡ Unseen = all_unseen place (Done number) d in absurd (cc)) h;
     })
+
+-- ---- what is left out
+
+deep_push : (most count : ℕ) (lines : List Line) (line : Line) → AreCutBelow most count lines → is_cut_below most count line ≡ true → AreCutBelow most count (lines ++ line ∷ [])
+deep_push most count lines line all one =
+    list_all-append (is_cut_below most count) lines (line ∷ []) ∙ and_both (list_all (is_cut_below most count) lines) (is_cut_below most count line && true) all (and_both (is_cut_below most count line) true one refl)
+
+pub shown_deep : (most count : ℕ) (lines : List Line) (place level number : ℕ) → AreCutBelow most count lines → level ≤ most → AreCutBelow most count (lines ++ Shown place level number ∷ [])
+shown_deep most count lines place level number all within = deep_push most count lines (Shown place level number) all (grind (arith, nat_tests))
+
+pub cut_deep : (most count : ℕ) (lines : List Line) (place level : ℕ) → AreCutBelow most count lines → most < level → AreCutBelow most count (lines ++ Cut place level ∷ [])
+cut_deep most count lines place level all below =
+    let deep : nat_lt most level ≡ true = grind (arith, nat_tests) in
+    deep_push most count lines (Cut place level) all (ap (λ b. b || nat_le count place) deep)
+
+none_past : {A : Type 0} (xs : List A) (i : ℕ) → slice_get xs i ≡ None → length xs ≤ i
+none_past [] i none = omega arith
+none_past (x ∷ xs) zero none = absurd cc
+none_past (x ∷ xs) (suc i) none = let past = none_past xs i none in omega arith
+
+pub cut_past : (most : ℕ) (marks : List Mark) (lines : List Line) (place level : ℕ) → AreCutBelow most (length marks) lines → slice_get marks place ≡ None → AreCutBelow most (length marks) (lines ++ Cut place level ∷ [])
+cut_past most marks lines place level all none =
+    let within = none_past marks place none in
+    let past : nat_le (length marks) place ≡ true = grind (arith, nat_tests) in
+    deep_push most (length marks) lines (Cut place level) all (ap (λ b. nat_lt most level || b) past ∙ or_right (nat_lt most level))
+
+-- one node more that was seen or not
+pub left_out_more : (lines : List Line) (marks : List Mark) (place : ℕ) (mark : Mark) → ShowsSeen lines marks → slice_get marks place ≡ Some mark →
+    left_out (place + 1) lines ≡ left_out place lines + (if is_unseen mark then 1 else 0)
+left_out_more lines marks place Unseen walk at =
+    ap (λ n. left_out n lines) (add-one place) ∙ ap (λ b. left_out place lines + (if b then 0 else 1)) (walk.unseen place at)
+left_out_more lines marks place (Open number) walk at =
+    ap (λ n. left_out n lines) (add-one place) ∙ ap (λ b. left_out place lines + (if b then 0 else 1)) (walk.seen place number (inl at))
+left_out_more lines marks place (Done number) walk at =
+    ap (λ n. left_out n lines) (add-one place) ∙ ap (λ b. left_out place lines + (if b then 0 else 1)) (walk.seen place number (inr at))

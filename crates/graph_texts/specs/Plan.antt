@@ -1,5 +1,5 @@
 -- The lines of a graph's text, before they are words.
-use Rattle.std.specs.Prelude.{◌≡◌, ℕ, zero, suc, nat_eq, Bool, true, false, ◌&&◌, ◌||◌, ◌⊎◌, if◌then◌else◌, List, [], ◌∷◌, ◌++◌, length, map, fold, Option, Some, None, option_map, option_and_then, slice_get}
+use Rattle.std.specs.Prelude.{◌≡◌, ℕ, ◌+◌, zero, suc, nat_eq, nat_le, nat_lt, Bool, true, false, ◌&&◌, ◌||◌, ◌⊎◌, if◌then◌else◌, List, [], ◌∷◌, ◌++◌, length, map, fold, Option, Some, None, option_map, option_and_then, slice_get}
 use Rattle.std.specs.List.{filter_map, IsDistinct, list_all, list_any}
 use Rattle.std.specs.Option.{option_map_or}
 use Rattle.graph_texts.specs.Below.{Goal, Node, Outcome}
@@ -22,6 +22,20 @@ places_shown lines = filter_map place_shown lines
 -- no node is shown twice
 abbrev pub AreShownOnce : List Line → Type 0
 AreShownOnce lines = IsDistinct nat_eq (places_shown lines)
+
+-- how many of so many nodes no line shows
+abbrev pub left_out : ℕ → List Line → ℕ
+left_out zero lines = 0
+left_out (suc place) lines = left_out place lines + (if list_any (nat_eq place) (places_shown lines) then 0 else 1)
+
+-- A line leaves its node out only where it stands deeper than `most`, or where there are no more nodes, and none shows one there.
+abbrev pub is_cut_below : ℕ → ℕ → Line → Bool
+is_cut_below most count (Shown place level number) = nat_le level most
+is_cut_below most count (Again place level number closes) = true
+is_cut_below most count (Cut place level) = nat_lt most level || nat_le count place
+
+abbrev pub AreCutBelow : ℕ → ℕ → List Line → Type 0
+AreCutBelow most count lines = list_all (is_cut_below most count) lines ≡ true
 
 -- ---- lines that are read back
 
@@ -88,6 +102,11 @@ abbrev pub AreWhole : List (Node Goal Outcome) → List Line → Type 0
 AreWhole nodes lines = (count : ℕ) × (lines_read nodes lines unread ≡ Some (all_read count))
 
 -- ---- the walk
+
+abbrev pub is_unseen : Mark → Bool
+is_unseen marked.Unseen = true
+is_unseen (marked.Open number) = false
+is_unseen (marked.Done number) = false
 
 -- the node was seen: its lines are begun, or at their end
 abbrev pub WasSeen : List Mark → ℕ → ℕ → Type 0

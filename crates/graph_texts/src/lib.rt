@@ -5,9 +5,12 @@
 //! |---|---|
 //! | `Words` | the letters of kinds and the names of goals |
 //! | `Plan` | the lines of a graph's text, before they are words |
+//! | `Grounds` | which rule holds, and at which question each rule fails, by the questions of edges |
+//! | `Reasons` | what the questions that are named come to in a graph |
 #![tactic(auto)]
 
 pub mod dot;
+pub mod law;
 mod plan;
 mod rule;
 mod text;

@@ -1,7 +1,7 @@
 //! The plan of a graph's text: which lines it has, in order. Each goal is shown once, where the walk down from the root
 //! first meets it, and below it each of its edges has one line.
-ghost use Rattle.std.specs.Prelude.{◌≡◌, ◌∷◌, ◌++◌, ℕ, [], false, IfOk, OnOk, Some, map, slice_get};
-ghost use Rattle.graph_texts.specs.Plan.{AreFound, AreShownOnce, AreWhole, Expects, WasSeen, IsReplayed, ShowsSeen, pending_of, targets_of};
+ghost use Rattle.std.specs.Prelude.{◌≡◌, ◌∷◌, ◌++◌, ℕ, [], false, IfOk, OnOk, Some, length, map, slice_get};
+ghost use Rattle.graph_texts.specs.Plan.{AreCutBelow, AreFound, AreShownOnce, AreWhole, Expects, WasSeen, IsReplayed, ShowsSeen, left_out, pending_of, targets_of};
 ghost use Rattle.graph_texts.specs.declared.plan.Line.TheVariants.{Again, Shown};
 ghost use Rattle.graph_texts.specs.declared.plan.Mark.TheVariants.{Unseen};
 
@@ -41,11 +41,32 @@ enum Mark {
     Done(usize),
 }
 
+impl Mark {
+    ghost use Rattle.graph_texts.specs.Plan.{is_unseen};
+
+    fn is_unseen(self) -> bool
+        ensures { result ≡ is_unseen self }
+    {
+        match self {
+            Mark::Unseen => true,
+            Mark::Open(_) | Mark::Done(_) => false,
+        }
+    }
+}
+
 // A node that is being shown, and its edges that have no line yet.
 #[derive(Clone, Copy)]
 struct Open<'a> {
     place: usize,
     rest: &'a [Edge<Goal>],
+}
+
+/// The lines of a graph's text.
+#[derive(Drop)]
+pub(crate) struct Planned {
+    pub(crate) lines: Vec<Line>,
+    /// How many nodes no line shows.
+    pub(crate) left: usize,
 }
 
 /// The walk over a graph.
@@ -66,10 +87,13 @@ pub(crate) fn plan(
     alloc: Global,
     nodes: &[Node<Goal, Outcome>],
     most: usize,
-) -> Result<Vec<Line>, NoMemory>
-    ensures once { IfOk result (λ lines. AreShownOnce lines.items) }
-    ensures found { IfOk result (λ lines. AreFound lines.items) }
-    ensures whole { IfOk result (λ lines. AreWhole nodes.now lines.items) }
+) -> Result<Planned, NoMemory>
+    ensures once { IfOk result (λ plan. AreShownOnce plan.lines.items) }
+    ensures found { IfOk result (λ plan. AreFound plan.lines.items) }
+    ensures whole { IfOk result (λ plan. AreWhole nodes.now plan.lines.items) }
+    ensures deep { IfOk result (λ plan. AreCutBelow most (length nodes.now) plan.lines.items) }
+    ensures left { IfOk result (λ plan.
+        plan.left ≡ left_out (length nodes.now) plan.lines.items) }
 {
     let mut walk = Walk {
         most,
@@ -81,7 +105,11 @@ pub(crate) fn plan(
     walk.meet(nodes, 0)?;
     for _ in 0..u64::MAX {
         if !walk.advance(nodes)? {
-            return Ok(walk.lines);
+            let left = walk.left_out();
+            return Ok(Planned {
+                lines: walk.lines,
+                left,
+            });
         }
     }
     Err(NoMemory)
@@ -94,7 +122,13 @@ impl<'a> Walk<'a> {
         requires walk { ShowsSeen self.old.lines.items self.old.marks.items }
         requires replayed { IsReplayed nodes.now self.old.lines.items
             (pending_of self.old.stack.items) }
+        requires deep { AreCutBelow self.old.most (length self.old.marks.items)
+            self.old.lines.items }
         ensures walk { ShowsSeen self.new.lines.items self.new.marks.items }
+        ensures deep { OnOk result (AreCutBelow self.new.most (length self.new.marks.items)
+            self.new.lines.items) }
+        ensures count { length self.new.marks.items ≡ length self.old.marks.items }
+        ensures most { self.new.most ≡ self.old.most }
         ensures replayed { OnOk result
             (IsReplayed nodes.now self.new.lines.items (pending_of self.new.stack.items)) }
         ensures end { result ≡ Ok false → self.new.stack.items ≡ [] }
@@ -115,6 +149,20 @@ impl<'a> Walk<'a> {
         Ok(true)
     }
 
+    // How many nodes no line shows.
+    fn left_out(&self) -> usize
+        requires { ShowsSeen self.now.lines.items self.now.marks.items }
+        ensures { result ≡ left_out (length self.now.marks.items) self.now.lines.items }
+    {
+        let mut left: usize = 0;
+        for mark in &self.marks {
+            if mark.is_unseen() {
+                left += 1;
+            }
+        }
+        left
+    }
+
     fn mark_of(&self, place: usize) -> Option<Mark>
         ensures { result ≡ slice_get self.now.marks.items place }
     {
@@ -125,6 +173,8 @@ impl<'a> Walk<'a> {
         requires { ShowsSeen self.old.lines.items self.old.marks.items }
         ensures walk { ShowsSeen self.new.lines.items self.new.marks.items }
         ensures rest { (self.new.lines ≡ self.old.lines) × (self.new.stack ≡ self.old.stack) }
+        ensures count { length self.new.marks.items ≡ length self.old.marks.items }
+        ensures most { self.new.most ≡ self.old.most }
     {
         if let Some(Mark::Open(number)) = self.mark_of(place) {
             self.marks[place] = Mark::Done(number);
@@ -136,7 +186,13 @@ impl<'a> Walk<'a> {
         requires walk { ShowsSeen self.old.lines.items self.old.marks.items }
         requires expected { Expects nodes.now self.old.lines.items place
             (pending_of self.old.stack.items) }
+        requires deep { AreCutBelow self.old.most (length self.old.marks.items)
+            self.old.lines.items }
         ensures walk { ShowsSeen self.new.lines.items self.new.marks.items }
+        ensures deep { OnOk result (AreCutBelow self.new.most (length self.new.marks.items)
+            self.new.lines.items) }
+        ensures count { length self.new.marks.items ≡ length self.old.marks.items }
+        ensures most { self.new.most ≡ self.old.most }
         ensures replayed { OnOk result
             (IsReplayed nodes.now self.new.lines.items (pending_of self.new.stack.items)) }
     {
@@ -145,7 +201,8 @@ impl<'a> Walk<'a> {
             Some(Mark::Unseen) if level <= self.most => self.show(nodes, place, level)?,
             Some(Mark::Open(number)) => self.again(place, level, number, true)?,
             Some(Mark::Done(number)) => self.again(place, level, number, false)?,
-            Some(Mark::Unseen) | None => self.lines.push(Line::Cut { place, level })?,
+            Some(Mark::Unseen) => self.lines.push(Line::Cut { place, level })?,
+            None => self.lines.push(Line::Cut { place, level })?,
         }
         Ok(())
     }
@@ -165,6 +222,8 @@ impl<'a> Walk<'a> {
         ensures line { OnOk result (self.new.lines.items
             ≡ self.old.lines.items ++ Again place level number closes ∷ []) }
         ensures stack { self.new.stack ≡ self.old.stack }
+        ensures marks { self.new.marks ≡ self.old.marks }
+        ensures most { self.new.most ≡ self.old.most }
     {
         self.lines.push(Line::Again {
             place,
@@ -188,6 +247,8 @@ impl<'a> Walk<'a> {
             (self.new.lines.items ≡ self.old.lines.items ++ Shown place level number ∷ [])) }
         ensures stack { OnOk result (pending_of self.new.stack.items
             ≡ targets_of nodes.now place ∷ pending_of self.old.stack.items) }
+        ensures count { length self.new.marks.items ≡ length self.old.marks.items }
+        ensures most { self.new.most ≡ self.old.most }
     {
         let number = self.shown;
         self.shown = number.saturating_add(1);

@@ -1,10 +1,11 @@
 //! A graph as indented text.
 
-use crate::plan::{Line, plan};
-use crate::rule::{FIRST_ANSWER, end_of, failing, holding, next_start};
+use crate::plan::{Line, Planned, plan};
+use crate::rule::{Grounds, failures, holding};
 use crate::words::{letter, name_of, write_rule};
-use rule_tables::{Candidate, Candidates, Goal, Outcome, Rules};
-use search_context::context::{Node, Reply};
+use rule_tables::rules::Asking;
+use rule_tables::{Candidates, Goal, Outcome, Rules};
+use search_context::context::{NoMemory, Node};
 use std::alloc::Global;
 use std::io;
 use std::io::Write;
@@ -25,15 +26,9 @@ pub fn write_text<W: Write>(
     nodes: &[Node<Goal, Outcome>],
     most: usize,
 ) -> io::Result<()> {
-    let Ok(lines) = plan(alloc, nodes, most) else {
-        return Err(io::Error::from(io::ErrorKind::OutOfMemory));
-    };
-    let mut left = nodes.len();
+    let Planned { lines, left } = plan(alloc, nodes, most).map_err(no_memory)?;
     for line in lines.as_slice() {
-        if let Line::Shown { .. } = *line {
-            left = left.saturating_sub(1);
-        }
-        write_line(out, rules, nodes, *line)?;
+        write_line(alloc, out, rules, nodes, *line)?;
     }
     if left > 0 {
         writeln!(out, "goals left out: {left}, which lie deeper than {most}")
@@ -42,7 +37,12 @@ pub fn write_text<W: Write>(
     }
 }
 
+fn no_memory(_refused: NoMemory) -> io::Error {
+    io::Error::from(io::ErrorKind::OutOfMemory)
+}
+
 fn write_line<W: Write>(
+    alloc: Global,
     out: &mut W,
     rules: &Rules,
     nodes: &[Node<Goal, Outcome>],
@@ -54,7 +54,7 @@ fn write_line<W: Write>(
             level,
             number,
         } => match nodes.get(place) {
-            Some(node) => write_node(out, rules, node, level, number),
+            Some(node) => write_node(alloc, out, rules, node, level, number),
             None => Ok(()),
         },
         Line::Again {
@@ -93,18 +93,21 @@ fn says(outcome: Outcome) -> &'static str {
 }
 
 fn write_node<W: Write>(
+    alloc: Global,
     out: &mut W,
     rules: &Rules,
     node: &Node<Goal, Outcome>,
     level: usize,
     number: usize,
 ) -> io::Result<()> {
-    write_shown(out, rules, node, level, number)?;
     let candidates = rules.candidates(node.input);
+    let grounds = Grounds::new(alloc, &node.edges).map_err(no_memory)?;
+    write_shown(out, rules, node, level, number)?;
     if node.result != Outcome::Yes {
-        return write_refutation(out, rules, node, &candidates, level);
+        let named = failures(alloc, &candidates, &grounds).map_err(no_memory)?;
+        return write_refutation(out, rules, node.input, &candidates, &named, level);
     }
-    if let Some(candidate) = holding(&candidates, &node.replies) {
+    if let Some(candidate) = holding(&candidates, &grounds) {
         write_rule(out, ", by rule ", rules, node.input, &candidate)?;
     }
     out.write_all(b"\n")
@@ -132,42 +135,28 @@ fn write_shown<W: Write>(
 fn write_refutation<W: Write>(
     out: &mut W,
     rules: &Rules,
-    node: &Node<Goal, Outcome>,
+    goal: Goal,
     candidates: &Candidates<'_>,
+    named: &[Option<Asking>],
     level: usize,
 ) -> io::Result<()> {
     if candidates.count() == 0 {
         return out.write_all(b", for it has no rule\n");
     }
     out.write_all(b"\n")?;
-    let mut start = FIRST_ANSWER;
-    for place in 0..candidates.count() {
-        let Some(candidate) = candidates.get(place) else {
-            break;
-        };
-        let end = end_of(start, &candidate);
-        let replies = node.replies.get(start..end).unwrap_or(&[]);
-        write_failing(out, rules, node.input, &candidate, replies, level)?;
-        start = next_start(end);
+    for (place, failing) in named.iter().enumerate() {
+        if let Some(candidate) = candidates.get(place) {
+            write_indentation(out, level.saturating_add(1))?;
+            write_rule(out, "rule ", rules, goal, &candidate)?;
+            write_failing(out, rules, *failing)?;
+        }
     }
     Ok(())
 }
 
-// A rule that fails, one level below its goal, and at which question.
-fn write_failing<W: Write>(
-    out: &mut W,
-    rules: &Rules,
-    goal: Goal,
-    candidate: &Candidate<'_>,
-    replies: &[Reply<Outcome>],
-    level: usize,
-) -> io::Result<()> {
-    write_indentation(out, level.saturating_add(1))?;
-    write_rule(out, "rule ", rules, goal, candidate)?;
-    let Some(place) = failing(replies) else {
-        return out.write_all(b"\n");
-    };
-    let Some(asking) = candidate.question(place) else {
+// At which question a rule fails, at the end of its line.
+fn write_failing<W: Write>(out: &mut W, rules: &Rules, failing: Option<Asking>) -> io::Result<()> {
+    let Some(asking) = failing else {
         return out.write_all(b"\n");
     };
     let letter = letter(asking.kind);

@@ -7,7 +7,6 @@ ghost use Rattle.goal_changes.specs.Words.{CanStep, HasStepped, IsStepFault};
 
 mod candidates;
 mod nodes;
-mod scopes;
 
 use crate::update::{
     cycle_head, note_depth, note_head, note_heads, note_nested_goals, take_nested_goals,
@@ -18,7 +17,6 @@ use path_kinds::path::{PathKind, PathsToNested};
 use run_records::progress::Progress;
 use run_records::runs::{Received, Run, step_run};
 use run_records::spare::SpareMemory;
-use scopes::HeldScope;
 use search_context::context::{Cx, Delegate, Fault, NoMemory, NodeId, Request};
 use search_stack::depth::StackDepth;
 use search_stack::result::{CacheData, EvaluationResult};
@@ -28,24 +26,21 @@ use std::alloc::Global;
 use std::marker::Model;
 use std::mem;
 
-/// A goal that was popped, with its run and the scope that was held for it.
+/// A goal that was popped, with its run.
 #[derive(Drop)]
-pub struct Popped<X: Cx, F: Drop, S: Drop> {
+pub struct Popped<X: Cx, F: Drop> {
     pub entry: StackEntry<X>,
     pub run: Run<X, F>,
-    pub scope: Option<S>,
 }
 
 /// The goals under evaluation with their runs. Clauses see them with the newest first.
 #[derive(Drop)]
-pub struct OpenGoals<X: Cx, F: Drop, S: Drop> {
+pub struct OpenGoals<X: Cx, F: Drop> {
     stack: Stack<X>,
     runs: Vec<Run<X, F>>,
-    /// The scopes that are held, each for its goal.
-    scopes: Vec<HeldScope<S>>,
 }
 
-impl<X: Cx, F: Drop, S: Drop> Model for OpenGoals<X, F, S> {
+impl<X: Cx, F: Drop> Model for OpenGoals<X, F> {
     ghost use Rattle.std.specs.Prelude.{◌≡◌, List, [], length};
     ghost use Rattle.goal_changes.specs.Newest.{paired};
     ghost use Rattle.goal_changes.specs.OpenGoal.{OpenGoal};
@@ -57,7 +52,7 @@ impl<X: Cx, F: Drop, S: Drop> Model for OpenGoals<X, F, S> {
     ghost invariant = { λ t. length t.stack ≡ length t.runs.items };
 }
 
-impl<X: Cx, F: Drop, S: Drop> OpenGoals<X, F, S> {
+impl<X: Cx, F: Drop> OpenGoals<X, F> {
     ghost use Rattle.goal_changes.specs.Newest.{newest, change_newest};
     ghost use Rattle.open_goals.specs.Below.{hit_of};
     ghost use Rattle.goal_changes.specs.Entries.{cycle_head};
@@ -65,13 +60,12 @@ impl<X: Cx, F: Drop, S: Drop> OpenGoals<X, F, S> {
     ghost use Rattle.goal_changes.specs.NestedGoals.{LeavesAnswer, NestsAnswer, NestsHead, NestsItself, NotesOverflow, TakesStored};
 
     /// No goal.
-    pub fn new(alloc: Global) -> OpenGoals<X, F, S>
+    pub fn new(alloc: Global) -> OpenGoals<X, F>
         ensures { result ≡ [] }
     {
         OpenGoals {
             stack: Stack::new(alloc),
             runs: Vec::new(alloc),
-            scopes: Vec::new(alloc),
         }
     }
 
@@ -116,25 +110,15 @@ impl<X: Cx, F: Drop, S: Drop> OpenGoals<X, F, S> {
     }
 
     /// Pops the newest goal. Where there were very many, memory is given back.
-    pub fn pop(&mut self) -> Popped<X, F, S>
+    pub fn pop(&mut self) -> Popped<X, F>
         requires { 0 < length self.old }
         ensures { self.old ≡ (result.entry, result.run) ∷ self.new }
     {
         give_room_back(&mut self.runs);
-        let goals = self.runs.len();
         Popped {
-            scope: scopes::take(&mut self.scopes, goals),
             run: self.runs.pop().unwrap(),
             entry: self.stack.pop(),
         }
-    }
-
-    /// Holds the scope, if there is one, for the newest goal. Where that is refused, the scope is dropped at once.
-    pub fn hold(&mut self, scope: Option<S>) -> Result<(), NoMemory>
-        ensures { self.new ≡ self.old }
-    {
-        let goals = self.runs.len();
-        scopes::hold(&mut self.scopes, goals, scope)
     }
 
     /// A question of the newest goal was refused. Where memory is, a part of that may be noted.
@@ -322,7 +306,7 @@ fn push_both<X: Cx, R: Drop>(
 /// Gives the newest frame its reply, and answers its request. `Fault::Protocol` where that is out of order.
 /// After a fault the goals may only be cleared.
 pub fn step<D: Delegate>(
-    goals: &mut OpenGoals<D::Cx, D::Frame, D::ValidationScope>,
+    goals: &mut OpenGoals<D::Cx, D::Frame>,
     cx: D::Cx,
     received: Received<<D::Cx as Cx>::Result>,
     spare: &mut SpareMemory<<D::Cx as Cx>::Input, <D::Cx as Cx>::Result>,

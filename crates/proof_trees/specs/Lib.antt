@@ -2,3 +2,4 @@ pub mod Below
 pub mod Entries
 pub mod Recorder
 pub mod Text
+pub mod Whole

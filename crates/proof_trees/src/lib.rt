@@ -12,6 +12,7 @@
 //! | `Entries` | what is recorded of a run, of its requests and of the replies to them |
 //! | `Recorder` | what a recorder has recorded, and what each call adds |
 //! | `Text` | the lines of a tree |
+//! | `Whole` | when entries are those of a goal that was worked out to its end |
 #![tactic(auto)]
 
 pub mod entry;
@@ -19,9 +20,11 @@ pub mod law;
 pub mod recorder;
 pub mod recording;
 mod run_record;
+mod whole;
 pub mod writing;
 
 pub use entry::{Entry, Part};
 pub use recorder::Recorder;
 pub use recording::Recording;
+pub use whole::is_whole;
 pub use writing::{Words, write_entries};

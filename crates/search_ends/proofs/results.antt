@@ -4,3 +4,4 @@ pub mod Given
 pub mod Remembering
 pub mod Causes
 pub mod Failing
+pub mod Notes

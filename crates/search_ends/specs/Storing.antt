@@ -1,7 +1,11 @@
 -- What is stored of a goal that is done, and what is known where that fails.
-use Rattle.std.specs.Prelude.{◌≡◌, ◌&&◌, ◌++◌, if◌then◌else◌, ℕ, Bool, [], ◌∷◌, Contains, IfErr, IsTrue, List, map, Result, reverse}
+use Rattle.std.specs.Prelude.{◌≡◌, ◌&&◌, ◌++◌, if◌then◌else◌, ℕ, Bool, [], ◌∷◌, Contains, IfErr, IsTrue, List, map, Option, Result, reverse, Some, Ok, Err}
+use Rattle.std.specs.Option.{option_map}
 use Rattle.graph_nodes.specs.Collected.{Collected}
-use Rattle.search_ends.specs.Below.{DelegateOf, CxOf, Cache, CacheNode, EvaluationResult, Fault, HasGraph, IfCompared, IsExpected, IsPlainAt, KeepsResults, NodeId, PathKind, entries_at, place_of, verdicts, KeepsNoted}
+use Rattle.search_ends.specs.Below.{DelegateOf, CxOf, Cache, CacheNode, EvaluationResult, Fault, HasGraph, IfCompared, IsExpected, IsPlainAt, KeepsResults, NodeId, PathKind, Place, Store, stored_at, StoredResult, entries_at, place_of, verdicts, KeepsNoted}
+use Rattle.search_context.specs.declared.context.Fault.TheVariants.{Conflict, Memory, Protocol, Validation}
+use Rattle.search_context.specs.Verdicts.{Verdicts}
+use Rattle.search_state.specs.Drafts.{noted}
 use Rattle.search_state.specs.declared.drafts.Drafts.{Drafts}
 use Rattle.search_state.specs.declared.evaluation.Evaluation.{Evaluation}
 use Rattle.run_records.specs.declared.runs.Fate.{Fate}
@@ -22,6 +26,34 @@ pub record PutsAnswer {C I R A T : Type 0} (same : I → I → Bool) (goal : I) 
   pub cache : ChangesResults same old new
   pub stored : StoresAnswer same old.results new.results goal answer
   pub changes : (depth : ℕ) → ChangesNewest same (record { goal = goal; depth = depth; fate = fate } ∷ []) old.results new.results
+
+-- Memory is out, or another result is stored of this goal than it came to: in this place, if its own was to be stored there.
+abbrev pub FailsToStore : {X I R A T : Type 0} → (I → I → Bool) → Store I (StoredResult X I R A T) → I → Place → Fault I R → Type 0
+FailsToStore same results goal place Memory = Unit {0}
+FailsToStore same results goal place (Protocol number) = ⊥
+FailsToStore same results goal place (Conflict other stored found) = (other ≡ goal) × (option_map (λ s. s.result.result) (stored_at same results goal place) ≡ Some stored)
+FailsToStore same results goal place (Validation other stored found) = other ≡ goal
+
+-- this result of the goal is stored, or the fault tells it beside the stored one
+abbrev pub IsStoredOrTold : {B X I R A T : Type 0} → (I → I → Bool) → Store I (StoredResult X I R A T) → I → R → Result B (Fault I R) → Type 0
+IsStoredOrTold same results goal r (Ok answer) = (place : Place) × (option_map (λ s. s.result.result) (stored_at same results goal place) ≡ Some r)
+IsStoredOrTold same results goal r (Err Memory) = ⊥
+IsStoredOrTold same results goal r (Err (Protocol number)) = ⊥
+IsStoredOrTold same results goal r (Err (Conflict other stored found)) = (other ≡ goal) × (found ≡ r)
+IsStoredOrTold same results goal r (Err (Validation other stored found)) = (other ≡ goal) × (found ≡ r)
+
+-- No node is noted besides those of before, or one that shows such a result.
+pub data NotesMore {B C I R A T : Type 0} (says : Verdicts R) (same : I → I → Bool) (before : List NodeId) (result : Result B (Fault I R)) (new : Cache C I R A T) (after : List NodeId) : Type 0 where
+  NotesNone : after ≡ before → NotesMore says same before result new after
+  NotesOne :
+      (goal : I) (r : R) (node : Option NodeId)
+      → after ≡ noted node before → HasGraph says new.nodes goal r node → IsStoredOrTold same new.results goal r result
+      → NotesMore says same before result new after
+
+-- what is noted as an answer is stored
+pub record Notes {B C I R A T : Type 0} (says : Verdicts R) (same : I → I → Bool) (old : Cache C I R A T) (before : Drafts) (result : Result B (Fault I R)) (new : Cache C I R A T) (after : Drafts) : Type 0 where
+  pub keeps : KeepsNoted same old before new after
+  pub more : NotesMore says same before.stored.items result new after.stored.items
 
 module _ {D C V P F I R A T : Type 0} (G : DelegateOf D C V P F I R A T) (X : CxOf C I R A T) where
   -- The goal's answer may be stored: it has its graph, if it rests on no goal; it is plain, where the goal has a rank; the goal came to it.

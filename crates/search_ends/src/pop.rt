@@ -1,7 +1,10 @@
 //! A goal is popped, with its result.
-ghost use Rattle.std.specs.Prelude.{◌≡◌, ◌<◌, ◌+◌, ◌^◌, ℕ, length, IfOk, IfErr, OnOk};
-ghost use Rattle.search_ends.specs.Below.{fates_of, HaveExpected, Memory, IsNewestPlainTo, MayPutNewest, GivesAnswer, GivesNested, LeavesAnswer, KeepsNoted, ChangesCache};
-ghost use Rattle.search_ends.specs.Words.{Fails, MayPop, Pops};
+ghost use Rattle.std.specs.Prelude.{◌≡◌, ◌<◌, ◌+◌, ◌^◌, ℕ, is_some, length, IfOk, IfErr, OnOk, Some};
+ghost use Rattle.std.specs.Option.{option_map};
+ghost use Rattle.search_rules.specs.Fates.{is_compared};
+ghost use Rattle.between_moves.specs.Scopes.{HoldScopes, HoldsNewest};
+ghost use Rattle.search_ends.specs.Below.{fates_of, newest, HaveExpected, Memory, IsNewestPlainTo, MayPutNewest, GivesAnswer, GivesNested, LeavesAnswer, ChangesCache, verdicts};
+ghost use Rattle.search_ends.specs.Words.{Fails, MayPop, NewestFailsToStore, Notes, Pops};
 
 use crate::store::store_answer;
 use global_cache::GlobalCache;
@@ -9,12 +12,13 @@ use goal_changes::Next;
 use open_goals::goals::{OpenGoals, Popped};
 use path_kinds::path::PathKind;
 use provisional_cache::RebaseReason;
-use run_records::runs::{Received, Run};
+use run_records::runs::{Fate, Received, Run};
 use search_context::context::{Answer, Cx, Delegate, Fault, NoMemory, Reply};
 use search_rules::nodes::result_node;
 use search_rules::rebase::rebase_entries;
 use search_stack::result::EvaluationResult;
 use search_state::evaluation::Evaluation;
+use search_state::scopes::HeldScopes;
 
 /// Pops the newest goal with this result, and gives that to the goal below it. Provisional entries that rest
 /// on the goal are rebased for the reason, which there is where it was used as a head.
@@ -27,30 +31,31 @@ pub(crate) fn pop_goal<D: Delegate>(
     requires may { MayPop D.Delegate D.Cx.Cx D.Cx.Input.eq outcome reason cache.old evaluation.old }
     requires expected { HaveExpected (D.scoped cache.old.cx) (D.script cache.old.cx)
         D.Cx.Input.eq cache.old.results (fates_of evaluation.old.goals) }
+    requires held { HoldScopes (fates_of evaluation.old.goals) evaluation.old.scopes }
     ensures popped { IfOk result (λ next.
         Pops D.Delegate D.Cx.Cx D.Cx.Input.eq outcome reason cache.old evaluation.old next cache.new
         evaluation.new) }
     ensures stored { MayPutNewest D.Cx.Input.eq evaluation.old.goals outcome cache.old.results
         cache.new.results }
     ensures cache { ChangesCache D.Cx.Input.eq evaluation.old.goals cache.old cache.new }
-    ensures noted { KeepsNoted D.Cx.Input.eq cache.old evaluation.old.drafts
+    ensures noted { Notes (verdicts D.Cx.Cx) D.Cx.Input.eq cache.old evaluation.old.drafts result
         cache.new evaluation.new.drafts }
     ensures rest { evaluation.new ≡ record evaluation.old {
       goals = evaluation.new.goals;
+      scopes = evaluation.new.scopes;
       provisional = evaluation.new.provisional;
       drafts = evaluation.new.drafts;
     } }
     ensures fails { IfErr result (Fails D.Delegate D.Cx.Cx D.Cx.Input.eq outcome cache.old
         cache.new evaluation.new.drafts) }
+    ensures whose { IfErr result (NewestFailsToStore D.Cx.Input.eq cache.old.results
+        evaluation.old.goals) }
     ensures plain { (n : ℕ) → IsNewestPlainTo (D.script cache.old.cx) n evaluation.old.goals →
         IfErr result (λ fault. fault ≡ Memory) }
 {
     // The scope is bound first, so it is dropped last, when the goal's frame is gone and its result compared.
-    let Popped {
-        scope: _scope,
-        entry,
-        run,
-    } = evaluation.goals.pop();
+    let scope = release_scope(&mut evaluation.scopes, &evaluation.goals);
+    let Popped { entry, run } = evaluation.goals.pop();
     let Run {
         frame: _,
         node: own_node,
@@ -88,14 +93,31 @@ pub(crate) fn pop_goal<D: Delegate>(
     )?;
     let mut answer = EvaluationResult::finalize(entry, encountered_overflow, outcome, node);
     let next = give_answer(&mut evaluation.goals, step, &mut answer)?;
-    store_answer(evaluation, cache, step, input, answer, fate)?;
+    let held = scope.as_ref();
+    store_answer(evaluation, cache, step, input, answer, fate, held)?;
     Ok(next)
+}
+
+/// Takes the newest goal's own scope, which it holds if its result is to be compared.
+fn release_scope<X: Cx, F: Drop, S: Drop>(
+    scopes: &mut HeldScopes<S>,
+    goals: &OpenGoals<X, F>,
+) -> Option<S>
+    requires some { 0 < length goals.now }
+    requires held { HoldScopes (fates_of goals.now) scopes.old }
+    ensures released { HoldsNewest (fates_of goals.now) scopes.new scopes.old }
+    ensures own { option_map (λ s. is_compared s.1.fate) (newest goals.now) ≡ Some (is_some result) }
+{
+    match goals.last_run().fate {
+        Fate::Compared(_) => Some(scopes.release()),
+        Fate::Stored | Fate::NotStored => None,
+    }
 }
 
 /// Gives the answer of a goal that was popped to the goal below it, which asked for it by this step. Where
 /// none is left, it is the answer to the call.
-fn give_answer<X: Cx, F: Drop, S: Drop>(
-    goals: &mut OpenGoals<X, F, S>,
+fn give_answer<X: Cx, F: Drop>(
+    goals: &mut OpenGoals<X, F>,
     step: PathKind,
     answer: &mut EvaluationResult<X>,
 ) -> Result<Next<X::Result>, NoMemory>

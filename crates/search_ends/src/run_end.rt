@@ -2,6 +2,7 @@
 ghost use Rattle.std.specs.Prelude.{Some};
 ghost use Rattle.search_ends.specs.Below.{Done, fates_of, HaveExpected, KeepsBuilder, HasRequest};
 ghost use Rattle.search_ends.specs.Words.{RunEnds};
+ghost use Rattle.between_moves.specs.Scopes.{HoldScopes};
 
 use crate::pop::pop_goal;
 use crate::rerun::run_again;
@@ -25,6 +26,7 @@ pub fn finish_run<D: Delegate>(
         cache.old evaluation.old (D.starts inspect.old) }
     requires expected { HaveExpected (D.scoped cache.old.cx) (D.script cache.old.cx)
         D.Cx.Input.eq cache.old.results (fates_of evaluation.old.goals) }
+    requires held { HoldScopes (fates_of evaluation.old.goals) evaluation.old.scopes }
     ensures ended { RunEnds D.Delegate D.Cx.Cx D.Cx.Input.eq D.Cx.Result.eq outcome
         cache.old evaluation.old (D.starts inspect.old) result
         cache.new evaluation.new (D.starts inspect.new) }

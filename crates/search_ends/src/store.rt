@@ -1,8 +1,9 @@
 //! What is stored of a goal that is done.
-ghost use Rattle.std.specs.Prelude.{◌≡◌, ◌≢◌, ◌<◌, ℕ, [], Err, false, length, IfErr, IfSome, IsTrue, OnOk, OnErr};
-ghost use Rattle.search_ends.specs.Below.{highest, IfCompared, IsExpected, IsPlainTo, IsPlainValue, place_of, Memory, Success, IsStored, StoresAnswer, entry_of, KeepsNoted};
+ghost use Rattle.std.specs.Prelude.{◌≡◌, ◌≢◌, ◌<◌, ℕ, [], Err, false, is_some, length, IfErr, IfSome, IsTrue, OnOk, OnErr};
+ghost use Rattle.search_ends.specs.Below.{highest, IfCompared, IsExpected, IsPlainTo, IsPlainValue, place_of, Memory, Success, IsStored, StoresAnswer, entry_of, verdicts};
+ghost use Rattle.search_rules.specs.Fates.{is_compared};
 ghost use Rattle.provisional_cache.specs.Provisional.{AppendsEntry};
-ghost use Rattle.search_ends.specs.Words.{ChangesResults, Fails, IsStorable, MayStore, PutsAnswer, Stores};
+ghost use Rattle.search_ends.specs.Words.{ChangesResults, Fails, FailsToStore, IsStorable, MayStore, Notes, PutsAnswer, Stores};
 
 use global_cache::GlobalCache;
 use path_kinds::path::PathKind;
@@ -17,7 +18,7 @@ use search_state::evaluation::Evaluation;
 
 /// Stores the result of a goal that is done, which was asked over the step, in the global cache, or compares it
 /// with the one that is stored, as its fate is; or, where it rests on goals of the stack, makes it a provisional
-/// entry, if the delegate lets such entries be used.
+/// entry, if the delegate lets such entries be used. A scope in which the result is compared is held till then.
 pub(crate) fn store_answer<D: Delegate>(
     evaluation: &mut Evaluation<D>,
     cache: &mut GlobalCache<D>,
@@ -25,12 +26,14 @@ pub(crate) fn store_answer<D: Delegate>(
     input: <D::Cx as Cx>::Input,
     answer: EvaluationResult<D::Cx>,
     fate: Fate<<D::Cx as Cx>::Result>,
+    _scope: Option<&D::ValidationScope>,
 ) -> Result<(), Fault<<D::Cx as Cx>::Input, <D::Cx as Cx>::Result>>
     requires may { MayStore D.Delegate D.Cx.Cx D.Cx.Input.eq cache.old input answer fate }
+    requires in_scope { is_some _scope ≡ is_compared fate }
     requires on_stack { IfSome (highest answer.heads) (λ head.
         head.0.0 < length evaluation.old.goals) }
     ensures puts { PutsAnswer D.Cx.Input.eq input answer fate cache.old cache.new }
-    ensures noted { KeepsNoted D.Cx.Input.eq cache.old evaluation.old.drafts
+    ensures noted { Notes (verdicts D.Cx.Cx) D.Cx.Input.eq cache.old evaluation.old.drafts result
         cache.new evaluation.new.drafts }
     ensures stores { OnOk result (Stores D.Delegate D.Cx.Cx D.Cx.Input.eq step input
         answer fate evaluation.old evaluation.new cache.new) }
@@ -40,6 +43,8 @@ pub(crate) fn store_answer<D: Delegate>(
     } }
     ensures fails { IfErr result (Fails D.Delegate D.Cx.Cx D.Cx.Input.eq answer.result cache.old
         cache.new evaluation.new.drafts) }
+    ensures whose { IfErr result (FailsToStore D.Cx.Input.eq cache.old.results input
+        (place_of answer)) }
     ensures plain { (n : ℕ) → IsPlainTo (D.script cache.old.cx) n input →
         place_of answer ≡ Success → IfCompared fate (IsPlainValue (D.script cache.old.cx) n input) →
         IfErr result (λ fault. fault ≡ Memory) }
@@ -110,9 +115,12 @@ fn store_for_good<D: Delegate>(
     ensures is_stored { OnOk result (
         IsStored D.Cx.Input.eq (D.Cx.token cache.old.cx) cache.new.results input answer) }
     ensures cache { ChangesResults D.Cx.Input.eq cache.old cache.new }
-    ensures noted { KeepsNoted D.Cx.Input.eq cache.old drafts.old cache.new drafts.new }
+    ensures noted { Notes (verdicts D.Cx.Cx) D.Cx.Input.eq cache.old drafts.old result
+        cache.new drafts.new }
     ensures fails { IfErr result (Fails D.Delegate D.Cx.Cx D.Cx.Input.eq answer.result cache.old
         cache.new drafts.new) }
+    ensures whose { IfErr result (FailsToStore D.Cx.Input.eq cache.old.results input
+        (place_of answer)) }
     ensures plain { (n : ℕ) → IsPlainTo (D.script cache.old.cx) n input →
         place_of answer ≡ Success →
         IfErr result (λ fault. fault ≡ Memory) }
@@ -159,9 +167,12 @@ fn compare<D: Delegate>(
     requires expected { IsExpected (D.scoped cache.now.cx) D.Cx.Input.eq cache.now.results input
         stored }
     ensures same { OnOk result (answer.now.result ≡ stored) }
-    ensures noted { KeepsNoted D.Cx.Input.eq cache.now drafts.old cache.now drafts.new }
+    ensures noted { Notes (verdicts D.Cx.Cx) D.Cx.Input.eq cache.now drafts.old result
+        cache.now drafts.new }
     ensures fails { IfErr result (Fails D.Delegate D.Cx.Cx D.Cx.Input.eq answer.now.result cache.now
         cache.now drafts.new) }
+    ensures whose { IfErr result (FailsToStore D.Cx.Input.eq cache.now.results input
+        (place_of answer.now)) }
     ensures differs { OnErr result (answer.now.result ≢ stored) }
 {
     cache.has_runs();

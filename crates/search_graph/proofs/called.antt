@@ -6,4 +6,7 @@ pub mod Limits
 pub mod Stored
 pub mod LimitsMet
 pub mod WorkedOut
+pub mod Reaching
+pub mod Faults
+pub mod Left
 pub mod Lists

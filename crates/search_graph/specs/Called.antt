@@ -2,6 +2,7 @@
 -- call follows of this.
 use Rattle.std.specs.Prelude.{◌≡◌, ◌<◌, ◌≤◌, ◌^◌, ℕ, Bool, true, [], None, Option, Some, Result, Ok}
 use Rattle.global_cache.specs.Sound.{IsSoundCache}
+use Rattle.path_kinds.specs.declared.path.PathKind.TheVariants.{Inductive}
 use Rattle.search_context.specs.declared.context.Answer.{Answer}
 use Rattle.search_graph.specs.Below.{Cache, CxOf, DelegateOf, Fault, first_accepted, Hit, IsFated, PathKind, usable, verdicts}
 use Rattle.search_graph.specs.Graph.{Graph}
@@ -18,10 +19,9 @@ pub record State (C I R A T : Type 0) : Type 0 where
   pub cache : Cache C I R A T
   pub starts : ℕ
 
--- A call for a goal, which a step of this kind asks: whether its builder is a no-op, whether a stored result of the goal is looked for, what
--- it works with before and after, and what it comes to.
+-- A call for a goal: whether its builder is a no-op, whether a stored result of the goal is looked for, what it works with before and after,
+-- and what it comes to. By which kind of step the goal is asked is no part of it: nothing depends on that.
 pub record Called (C I R A T : Type 0) : Type 0 where
-  pub kind : PathKind
   pub goal : I
   pub noop : Bool
   pub looks_up : Bool
@@ -38,6 +38,7 @@ module _ {D C V P F I R A T : Type 0} (G : DelegateOf D C V P F I R A T) (X : Cx
   abbrev pub begun : Graph → Drafts → Evaluation D C V P F I R A T
   begun graph drafts = record {
     goals = [];
+    scopes = [];
     provisional = [];
     root_depth = record { 0 = graph.root_depth };
     limits_met = graph.limits_met;
@@ -72,4 +73,4 @@ module _ {D C V P F I R A T : Type 0} (G : DelegateOf D C V P F I R A T) (X : Cx
     pub drafts : Drafts
     pub left : Evaluation D C V P F I R A T
     pub at_outset : IsAtOutset call.before.cache (begun call.before.graph drafts)
-    pub evaluated : Evaluated call.noop call.looks_up call.kind call.goal call.before.cache (begun call.before.graph drafts) call.before.starts call.result call.after.cache (record left { limits_met = call.after.graph.limits_met }) call.after.starts
+    pub evaluated : Evaluated call.noop call.looks_up Inductive call.goal call.before.cache (begun call.before.graph drafts) call.before.starts call.result call.after.cache (record left { limits_met = call.after.graph.limits_met }) call.after.starts

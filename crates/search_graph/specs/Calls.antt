@@ -1,10 +1,9 @@
 -- What a move, and the whole of an evaluation, comes to in whatever call it is made.
-use Rattle.std.specs.Prelude.{◌≡◌, ◌≢◌, ℕ, Bool, true, false, List, None, Option, Result, IfOk, IfErr, IfSome}
-use Rattle.search_graph.specs.Below.{Begins, Cache, CacheNode, Call, CxOf, DelegateOf, EndsWith, Fated, Fault, fates_of, HasGraph, Hit, IsCaused, KeepsFinished, KeepsNodes, KeepsResults, Memory, MovesFates, Place, StayFrom, OpenGoal, Store, stored_at, StopsWith, verdicts}
+use Rattle.std.specs.Prelude.{◌≡◌, ℕ, Bool, true, false, List, Option, Result, IfOk, IfErr, IfSome}
+use Rattle.search_graph.specs.Below.{Begins, Cache, CacheNode, Call, CxOf, DelegateOf, EndsWith, Fated, Fault, fates_of, HasGraph, Hit, IsCaused, KeepsFinished, KeepsNodes, KeepsResults, MovesFates, Place, StayFrom, OpenGoal, Store, stored_at, StopsWith, verdicts}
 use Rattle.run_records.specs.declared.runs.Fate.{Fate}
 use Rattle.run_records.specs.declared.runs.Fate.TheVariants as becomes
 use Rattle.search_context.specs.declared.context.Answer.{Answer}
-use Rattle.search_state.specs.Drafts.{LeavesReached}
 use Rattle.search_state.specs.declared.evaluation.Evaluation.{Evaluation}
 
 -- What a call keeps of the cache: the context, stored results or equal ones, finished nodes, and each node's goal.
@@ -33,13 +32,10 @@ pub record MovesGoals {C F I R A T : Type 0} (same : I → I → Bool) (suits : 
   pub stays : StayFrom nodes old new
   pub fates : MovesFates same suits (fates_of old) (fates_of new)
 
--- An answer has its graph, beside which nothing is left of the nodes from this place on but what is stored. A fault has its cause, and
--- nothing else is left of them either, if there was memory.
-pub record IsGrounded {D C V P F I R A T : Type 0} (G : DelegateOf D C V P F I R A T) (X : CxOf C I R A T) (same : I → I → Bool) (goal : I) (first : ℕ) (cache : Cache C I R A T) (result : Result (Answer R) (Fault I R)) : Type 0 where
+-- An answer has its graph, and a fault its cause.
+pub record IsGrounded {D C V P F I R A T : Type 0} (G : DelegateOf D C V P F I R A T) (X : CxOf C I R A T) (same : I → I → Bool) (goal : I) (cache : Cache C I R A T) (result : Result (Answer R) (Fault I R)) : Type 0 where
   pub has_graph : IfOk result (λ answer. HasGraph (verdicts X) cache.nodes goal answer.result answer.node)
-  pub leaves : IfOk result (λ answer. LeavesReached same first answer.node cache)
   pub caused : IfErr result (IsCaused G X same cache)
-  pub left : IfErr result (λ fault. fault ≢ Memory → LeavesReached same first None cache)
 
 module _ {D C V P F I R A T : Type 0} (G : DelegateOf D C V P F I R A T) (X : CxOf C I R A T) (same : I → I → Bool) (cx : C) where
   -- where the call began, an answer ended it, which is stored where this holds and whose result is as this says, or a fault stopped it

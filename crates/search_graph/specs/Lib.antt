@@ -6,6 +6,9 @@ pub mod Turns
 pub mod Laws
 pub mod Ran
 pub mod Called
+pub mod Reaching
+pub mod Faults
+pub mod Left
 pub mod LimitsMet
 pub mod Worked
 pub mod Below

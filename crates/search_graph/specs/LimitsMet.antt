@@ -39,7 +39,7 @@ module _ {D C V P F I R A T : Type 0} {G : DelegateOf D C V P F I R A T} {X : Cx
         → Advanced G X same same_result noop received old e starts result new after later → LimitsMet
     met_by_move (FrameFailed fault goals failed) = no_limits_met
     met_by_move {e = e} (Asked kind goal goals given new after later stepped asking asks) = record { refused = is_none (question_depth G (record e { goals = goals })); most_runs = false }
-    met_by_move {e = e} (NotAsked kind goal goals new after later stepped stops asks) = record { refused = is_none (question_depth G (record e { goals = goals })); most_runs = false }
+    met_by_move {e = e} (NotAsked kind goal goals new after later stepped fails asks) = record { refused = is_none (question_depth G (record e { goals = goals })); most_runs = false }
     met_by_move (RunEnded outcome goals result new after later stepped runs ends) = met_at_end ends
     met_by_move (Noted request goals noted stepped about notes) = no_limits_met
     met_by_move (NotNoted request goals left stepped) = no_limits_met
@@ -55,8 +55,8 @@ module _ {D C V P F I R A T : Type 0} {G : DelegateOf D C V P F I R A T} {X : Cx
 
     abbrev pub met_in_turns : {kind : PathKind} {goal : I} {fate : Fate R} {old : Cache C I R A T} {e : Evaluation D C V P F I R A T} {starts : ℕ} {result : Result (Next R) (Fault I R)} {new : Cache C I R A T} {after : Evaluation D C V P F I R A T} {later : ℕ}
         → Ran G X same same_result noop kind goal fate old e starts result new after later → LimitsMet
-    met_in_turns (Began goals nodes later pushes fates nodes_kept one counted) = no_limits_met
-    met_in_turns (NotBegun goals later least one) = no_limits_met
+    met_in_turns (Began goals held nodes later pushes fates holds nodes_kept one counted) = no_limits_met
+    met_in_turns (NotBegun goals held later least one) = no_limits_met
     met_in_turns (Then given mid between now result new after later ran turned) = met_either (met_in_turns ran) (met_by_turn turned)
 
     abbrev pub met_in_evaluation : {looks_up : Bool} {kind : PathKind} {goal : I} {old : Cache C I R A T} {e : Evaluation D C V P F I R A T} {starts : ℕ} {result : Result (Answer R) (Fault I R)} {new : Cache C I R A T} {after : Evaluation D C V P F I R A T} {later : ℕ}

@@ -1,4 +1,4 @@
--- What a list of queries is answered with. A query is a root depth, a goal, and the kind of the step that asks it.
+-- What a list of queries is answered with. A query is a root depth, a goal, and the kind of the step that asks it, on which nothing depends.
 use Rattle.std.specs.Prelude.{◌≡◌, ℕ, ◌≤◌, max, All, Bool, true, false, Contains, List, [], ◌∷◌, ◌++◌, slice_get, None, Some, IfSome, Result, Ok, Err, IfOk, IfErr}
 use Rattle.std.specs.List.{AllZip, list_any, sum_by}
 use Rattle.search_graph.specs.Called.{Called, HasRun}
@@ -77,7 +77,6 @@ met_in graphs = list_any (λ graph. graph.limits_met) graphs
 -- the call that a query makes, which is made on a new graph
 abbrev pub call_for : {C I R A T : Type 0} → (noop : Bool) → ℕ × I × PathKind → Cache C I R A T → ℕ → Result (Answer R) (Fault I R) → Graph → Cache C I R A T → ℕ → Called C I R A T
 call_for noop query old from result left new to = record {
-  kind = query.2;
   goal = query.1;
   noop = noop;
   looks_up = noop;
@@ -85,6 +84,18 @@ call_for noop query old from result left new to = record {
   result = result;
   after = record { graph = left; cache = new; starts = to };
 }
+
+-- A list of queries over one cache: whether its builder is a no-op, the cache and how many frames were started before and after, the
+-- answers, and the graph that each call left.
+pub record Listed (C I R A T : Type 0) : Type 0 where
+  pub noop : Bool
+  pub queries : List (ℕ × I × PathKind)
+  pub before : Cache C I R A T
+  pub starts : ℕ
+  pub answers : List (Result (Answer R) (Fault I R))
+  pub graphs : List Graph
+  pub after : Cache C I R A T
+  pub later : ℕ
 
 module _ {D C V P F I R A T : Type 0} (G : DelegateOf D C V P F I R A T) (X : CxOf C I R A T) (same : I → I → Bool) (same_result : R → R → Bool) (noop : Bool) where
   -- the queries' calls were made, one after another, with these answers, and left these graphs
@@ -111,3 +122,7 @@ module _ {D C V P F I R A T : Type 0} (G : DelegateOf D C V P F I R A T) (X : Cx
     pub new : Cache C I R A T
     pub to : ℕ
     pub ran : HasRun G X same same_result (call_for noop query old from answer graph new to)
+
+-- each query of the list was asked by a call
+abbrev pub ListHasRun : {D C V P F I R A T : Type 0} → DelegateOf D C V P F I R A T → CxOf C I R A T → (I → I → Bool) → (R → R → Bool) → Listed C I R A T → Type 0
+ListHasRun G X same same_result list = AllRan G X same same_result list.noop list.before list.starts list.queries list.answers list.graphs list.after list.later

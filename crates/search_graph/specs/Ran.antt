@@ -1,22 +1,15 @@
 -- What a call does with goals, cache and frames: one turn after another, each of which is a move, after which nodes are let go.
-use Rattle.std.specs.Prelude.{◌≡◌, ◌≤◌, ◌+◌, ◌∷◌, ◌||◌, ℕ, Bool, true, [], List, None, Some, Result, Ok, Err}
-use Rattle.std.specs.Option.{is_none}
+use Rattle.std.specs.Prelude.{◌≡◌, ◌≤◌, ◌+◌, ◌∷◌, ℕ, Bool, true, [], List, None, Some, Result, Ok, Err}
 use Rattle.run_records.specs.declared.runs.Fate.{Fate}
 use Rattle.search_context.specs.declared.context.Answer.{Answer}
 use Rattle.search_context.specs.declared.context.Reply.TheVariants as reply
+use Rattle.between_moves.specs.Scopes.{HoldsOwn}
 use Rattle.search_ends.specs.Words.{RunEnds}
-use Rattle.search_graph.specs.Below.{AreRuns, Begin, Cache, CacheNode, Call, CountsOne, CxOf, DelegateOf, Done, Evaluate, Fault, fates_of, Finished, HasStepped, IsReplyTo, IsStepFault, KeepsCache, KeepsNodes, Memory, Next, NotesCandidate, OpenGoal, PathKind, Pushes, Received, Request, Requests, Step, StopsWith, verdicts}
-use Rattle.search_questions.specs.Words.{AskingLeadsTo, LetsGo, LetsGoAtEnd, question_depth}
+use Rattle.search_graph.specs.Below.{AreRuns, Begin, Cache, CacheNode, CountsOne, CxOf, DelegateOf, Done, Evaluate, Fault, fates_of, Finished, HasStepped, IsReplyTo, IsStepFault, KeepsNodes, Memory, Next, NotesCandidate, OpenGoal, PathKind, Pushes, Received, Request, Step, verdicts}
+use Rattle.search_questions.specs.Words.{AskingFails, AskingLeadsTo, Asks, LetsGo, LetsGoAtEnd}
 use Rattle.search_state.specs.declared.evaluation.Evaluation.{Evaluation}
 
 module _ {D C V P F I R A T : Type 0} (G : DelegateOf D C V P F I R A T) (X : CxOf C I R A T) (same : I → I → Bool) (same_result : R → R → Bool) (noop : Bool) where
-  -- a question of the newest goal, also where memory was out, added at most a node, and met a limit if it had no depth
-  pub record Asks (old : Cache C I R A T) (e : Evaluation D C V P F I R A T) (new : Cache C I R A T) (after : Evaluation D C V P F I R A T) : Type 0 where
-    pub cache : KeepsCache same e.goals old new
-    pub same_results : new.results ≡ old.results
-    pub same_drafts : after.drafts ≡ e.drafts
-    pub meets : after.limits_met ≡ (e.limits_met || is_none (question_depth G e))
-
   -- The newest frame gets the reply, and what it requests is done: its question is asked, its run is ended, or what it says of
   -- candidates is noted. Each of these may fail.
   pub data Advanced (received : Received R) (old : Cache C I R A T) (e : Evaluation D C V P F I R A T) (starts : ℕ) : Result (Next R) (Fault I R) → Cache C I R A T → Evaluation D C V P F I R A T → ℕ → Type 0 where
@@ -27,13 +20,13 @@ module _ {D C V P F I R A T : Type 0} (G : DelegateOf D C V P F I R A T) (X : Cx
     Asked :
         (kind : PathKind) (goal : I) (goals : List (OpenGoal C F I R A T)) (given : Received R) (new : Cache C I R A T) (after : Evaluation D C V P F I R A T) (later : ℕ)
         → HasStepped G X old.cx received (Evaluate kind goal) e.goals goals → AskingLeadsTo G X same old.cx kind goal noop old (record e { goals = goals }) starts given new after later
-        → Asks old (record e { goals = goals }) new after
+        → Asks G same old (record e { goals = goals }) new after
         → Advanced received old e starts (Ok (Step given)) new after later
     NotAsked :
         (kind : PathKind) (goal : I) (goals : List (OpenGoal C F I R A T)) (new : Cache C I R A T) (after : Evaluation D C V P F I R A T) (later : ℕ)
         → HasStepped G X old.cx received (Evaluate kind goal) e.goals goals
-        → ((call : Call I) (ahead : ℕ) → Requests G X same old.cx (Evaluate kind goal) call ahead old (record e { goals = goals }) starts → StopsWith G X same old.cx call Memory new after later)
-        → Asks old (record e { goals = goals }) new after
+        → AskingFails G old (record e { goals = goals }) starts new after later
+        → Asks G same old (record e { goals = goals }) new after
         → Advanced received old e starts (Err Memory) new after later
     RunEnded :
         (outcome : R) (goals : List (OpenGoal C F I R A T)) (result : Result (Next R) (Fault I R)) (new : Cache C I R A T) (after : Evaluation D C V P F I R A T) (later : ℕ)
@@ -66,25 +59,26 @@ module _ {D C V P F I R A T : Type 0} (G : DelegateOf D C V P F I R A T) (X : Cx
     Failed :
         (fault : Fault I R) (mid new : Cache C I R A T) (between after : Evaluation D C V P F I R A T) (later : ℕ)
         → Advanced received old e starts (Err fault) mid between later → LetsGoAtEnd same between None mid new
-        → after ≡ record between { goals = []; provisional = [] }
+        → after ≡ record between { goals = []; scopes = []; provisional = [] }
         → Turned received old e starts (Err fault) new after later
     FailedForGood :
         (fault : Fault I R) (new : Cache C I R A T) (between after : Evaluation D C V P F I R A T) (later : ℕ)
-        → Advanced received old e starts (Err fault) new between later → after ≡ record between { goals = []; provisional = [] }
+        → Advanced received old e starts (Err fault) new between later → after ≡ record between { goals = []; scopes = []; provisional = [] }
         → Turned received old e starts (Err Memory) new after later
 
-  -- The goal is pushed, and one turn follows another, each with the reply that the one before it led to.
+  -- The goal is pushed, with its scope, if it holds one, and one turn follows another, each with the reply that the one before it led to.
   pub data Ran (kind : PathKind) (goal : I) (fate : Fate R) (old : Cache C I R A T) (e : Evaluation D C V P F I R A T) (starts : ℕ) : Result (Next R) (Fault I R) → Cache C I R A T → Evaluation D C V P F I R A T → ℕ → Type 0 where
     Began :
-        (goals : List (OpenGoal C F I R A T)) (nodes : List (CacheNode I R)) (later : ℕ)
+        (goals : List (OpenGoal C F I R A T)) (held : List V) (nodes : List (CacheNode I R)) (later : ℕ)
         → Pushes G X old.cx goal kind e.root_depth old.nodes nodes e.goals goals
         → fates_of goals ≡ record { goal = goal; depth = e.root_depth.0; fate = fate } ∷ fates_of e.goals
+        → HoldsOwn fate e.scopes held
         → KeepsNodes old.nodes nodes → later ≤ starts + 1 → (G.counts ≡ true → CountsOne G.last starts later)
-        → Ran kind goal fate old e starts (Ok (Step (record { reply = Begin; node = None }))) (record old { nodes = nodes }) (record e { goals = goals }) later
+        → Ran kind goal fate old e starts (Ok (Step (record { reply = Begin; node = None }))) (record old { nodes = nodes }) (record e { goals = goals; scopes = held }) later
     NotBegun :
-        (goals : List (OpenGoal C F I R A T)) (later : ℕ)
+        (goals : List (OpenGoal C F I R A T)) (held : List V) (later : ℕ)
         → starts ≤ later → later ≤ starts + 1
-        → Ran kind goal fate old e starts (Err Memory) old (record e { goals = goals }) later
+        → Ran kind goal fate old e starts (Err Memory) old (record e { goals = goals; scopes = held }) later
     Then :
         (given : Received R) (mid : Cache C I R A T) (between : Evaluation D C V P F I R A T) (now : ℕ) (result : Result (Next R) (Fault I R)) (new : Cache C I R A T) (after : Evaluation D C V P F I R A T) (later : ℕ)
         → Ran kind goal fate old e starts (Ok (Step given)) mid between now → Turned given mid between now result new after later

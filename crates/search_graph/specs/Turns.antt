@@ -2,7 +2,7 @@
 use Rattle.std.specs.Prelude.{◌≡◌, ◌≤◌, Bool, length, List, []}
 use Rattle.graph_nodes.specs.Collected.{StayBefore}
 use Rattle.search_graph.specs.Below.{AreFrom, Cache, ChangesNewest, CxOf, DelegateOf, fates_of, Finished, IsJustifiedNext, IsNew, IsRightFor, KeepsFirst, KeepsResults, Next, Step, OpenGoal, verdicts}
-use Rattle.search_state.specs.Drafts.{AreNotedNodes, HasNoDrafts, LeavesReached}
+use Rattle.search_state.specs.Drafts.{AreNotedNodes, HasNoDrafts}
 use Rattle.search_state.specs.declared.evaluation.Evaluation.{Evaluation}
 
 module _ {D C V P F I R A T : Type 0} (same : I → I → Bool) where
@@ -14,10 +14,10 @@ module _ {D C V P F I R A T : Type 0} (same : I → I → Bool) where
     pub from : AreFrom e.drafts.first e.goals
     pub noted_are : AreNotedNodes same cache e.drafts
 
-  -- this stays so; and once the call has its answer, only nodes are left of it that are reached from there or from goals of which a result is stored
+  -- this stays so as long as the call goes on
   abbrev pub HasDraftsNext : Next R → Cache C I R A T → Evaluation D C V P F I R A T → Type 0
   HasDraftsNext (Step given) cache e = HasDrafts cache e
-  HasDraftsNext (Finished answer) cache e = LeavesReached same e.drafts.first answer.node cache
+  HasDraftsNext (Finished answer) cache e = Unit {0}
 
   pub record KeepsDrafts (before : Evaluation D C V P F I R A T) (next : Next R) (cache : Cache C I R A T) (after : Evaluation D C V P F I R A T) : Type 0 where
     pub first : after.drafts.first ≡ before.drafts.first

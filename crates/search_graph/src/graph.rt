@@ -95,7 +95,7 @@ impl<D: Delegate> SearchGraph<D> {
         self.limits_met
     }
 
-    /// The answer to a goal, evaluated over the cache's context, which is asked by a step of this kind. A
+    /// The answer to a goal, evaluated over the cache's context. Nothing depends on the kind of the step that asks it. A
     /// definite answer names its node, the root of its graph in the cache's list.
     ///
     /// The results of this goal and of those that it asks are stored in the cache, and used again, unless the
@@ -115,7 +115,7 @@ impl<D: Delegate> SearchGraph<D> {
         &mut self,
         cache: &mut GlobalCache<D>,
         input: <D::Cx as Cx>::Input,
-        step_kind_from_parent: PathKind,
+        _step_kind_from_parent: PathKind,
         inspect: &mut D::ProofTreeBuilder,
     ) -> Result<Answer<<D::Cx as Cx>::Result>, Fault<<D::Cx as Cx>::Input, <D::Cx as Cx>::Result>>
         // A definite answer has its graph, and the goal has none of the other sort.
@@ -162,7 +162,6 @@ impl<D: Delegate> SearchGraph<D> {
 
         // What the call did, move by move. The laws (`search_graph::law`) say what follows.
         ensures ran { HasRun D.Delegate D.Cx.Cx D.Cx.Input.eq D.Cx.Result.eq (record {
-          kind = step_kind_from_parent;
           goal = input;
           noop = D.noop inspect.old;
           looks_up = D.noop inspect.old;
@@ -188,7 +187,7 @@ impl<D: Delegate> SearchGraph<D> {
         is_sound(cache);
         let evaluation = &mut self.evaluation;
         evaluation.begin(self.root_depth, self.limits_met, cache);
-        let outcome = evaluate::<D>(evaluation, cache, step_kind_from_parent, input, inspect);
+        let outcome = evaluate::<D>(evaluation, cache, input, inspect);
         self.limits_met = evaluation.limits_met;
         evaluation.end(cache);
         is_sound(cache);

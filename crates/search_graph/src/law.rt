@@ -6,6 +6,7 @@ ghost use Rattle.search_graph.specs.Laws.{AreLaws};
 
 pub mod decisive;
 pub mod enclosed;
+pub mod faults;
 pub mod kept;
 pub mod limits;
 pub mod lists;
@@ -20,8 +21,8 @@ pub(crate) fn keeps_laws<D: Delegate>()
     ensures { AreLaws D.Delegate D.Cx.Cx D.Cx.Input.eq D.Cx.Result.eq }
 {}
 
-/// A cache's nodes are runs of their goals, and its results are right.
-pub(crate) fn is_sound<D: Delegate>(cache: &GlobalCache<D>)
+/// Each finished node of a cache is a run of its goal, and each stored result has its graph and is what its goal's rank allows.
+pub fn is_sound<D: Delegate>(cache: &GlobalCache<D>)
     ensures { IsSoundCache D.Cx.Input.eq (verdicts D.Cx.Cx) D.script cache.now }
 {
     cache.has_runs();

@@ -1,13 +1,14 @@
 -- What a question of the newest goal comes to.
-use Rattle.std.specs.Prelude.{◌≡◌, ◌≤◌, ◌+◌, ℕ, Bool, true, false, List, ◌∷◌, map, reverse, Option, Some, None}
-use Rattle.std.specs.Option.{option_and_then}
+use Rattle.std.specs.Prelude.{◌≡◌, ◌≤◌, ◌+◌, ◌||◌, ℕ, Bool, true, false, List, ◌∷◌, map, reverse, Option, Some, None}
+use Rattle.std.specs.Option.{is_none, option_and_then}
 use Rattle.std.specs.List.{list_any}
-use Rattle.search_questions.specs.Below.{DelegateOf, CxOf, Received, ProvisionalCacheEntry, PathKind, OpenGoal, StackDepth, AvailableDepth, Cache, CacheNode, NestsItself, NotesOverflow, TakesStored, AnswersNewest, Hit, first_accepted, usable, depth_below, newest, CountsOne}
+use Rattle.search_questions.specs.Below.{DelegateOf, CxOf, Received, ProvisionalCacheEntry, PathKind, OpenGoal, StackDepth, AvailableDepth, Cache, CacheNode, NestsItself, NotesOverflow, TakesStored, AnswersNewest, Hit, first_accepted, usable, depth_below, newest, CountsOne, KeepsCache}
 use Rattle.search_context.specs.declared.context.Reply.TheVariants as reply
 use Rattle.search_rules.specs.LookUp.{Asking, is_applicable, usable_entry, IsUsable}
 use Rattle.search_state.specs.declared.evaluation.Evaluation.{Evaluation}
 use Rattle.search_rules.specs.Fates.{answered_by, fate_for, fates_of, IsFated}
 use Rattle.search_rules.specs.Moves.{ClosesCycle, Pushes}
+use Rattle.between_moves.specs.Scopes.{HoldsOwn}
 
 -- the depth that a question of the newest goal gets, if that may ask
 abbrev pub question_depth : {D C V P F I R A T : Type 0} → DelegateOf D C V P F I R A T → Evaluation D C V P F I R A T → Option ℕ
@@ -52,7 +53,7 @@ module _ {D C V P F I R A T : Type 0} (G : DelegateOf D C V P F I R A T) (X : Cx
   -- A question of a goal without depth is refused, which meets a limit. Any other is answered by a provisional entry, if one may be
   -- used; else by a stored result, if one may be used; else over a cycle, if its goal is on the stack; else its goal is pushed. With a
   -- builder that records no stored result is used, and that of a goal that is pushed is not stored; in a scope it is compared with the
-  -- one that is stored.
+  -- one that is stored, and the scope is held.
   pub data AskingLeadsTo (noop : Bool) (old : Cache C I R A T) (e : Evaluation D C V P F I R A T) (starts : ℕ) : Received R → Cache C I R A T → Evaluation D C V P F I R A T → ℕ → Type 0 where
     Refused :
         (goals : List (OpenGoal C F I R A T))
@@ -73,10 +74,26 @@ module _ {D C V P F I R A T : Type 0} (G : DelegateOf D C V P F I R A T) (X : Cx
         → list_any (λ s. same goal s.0.input) e.goals ≡ true → ClosesCycle G X cx same kind goal head received e.goals goals
         → AskingLeadsTo noop old e starts received old (record e { goals = goals }) starts
     Pushed :
-        (depth : AvailableDepth) (goals : List (OpenGoal C F I R A T)) (nodes : List (CacheNode I R)) (later : ℕ)
+        (depth : AvailableDepth) (goals : List (OpenGoal C F I R A T)) (held : List V) (nodes : List (CacheNode I R)) (later : ℕ)
         → Some depth.0 ≡ question_depth G e → entry_for e ≡ None → stored_for noop old e depth.0 ≡ None
         → list_any (λ s. same goal s.0.input) e.goals ≡ false → Pushes G X cx goal kind depth old.nodes nodes e.goals goals
         → fates_of goals ≡ record { goal = goal; depth = depth.0; fate = fate_for noop (G.scoped cx goal) (found_for old e depth.0) } ∷ fates_of e.goals
+        → HoldsOwn (fate_for noop (G.scoped cx goal) (found_for old e depth.0)) e.scopes held
         → IsFated (G.scoped cx) (G.script cx) same old.results noop (record { goal = goal; depth = depth.0; fate = fate_for noop (G.scoped cx goal) (found_for old e depth.0) })
         → later ≤ starts + 1 → (G.counts ≡ true → CountsOne G.last starts later)
-        → AskingLeadsTo noop old e starts (record { reply = reply.Begin; node = None }) (record old { nodes = nodes }) (record e { goals = goals }) later
+        → AskingLeadsTo noop old e starts (record { reply = reply.Begin; node = None }) (record old { nodes = nodes }) (record e { goals = goals; scopes = held }) later
+
+-- Memory was out: as a question was refused, or was about to be answered at this depth, or its goal to be pushed.
+pub data AskingFails {D C V P F I R A T : Type 0} (G : DelegateOf D C V P F I R A T) (old : Cache C I R A T) (e : Evaluation D C V P F I R A T) (starts : ℕ) : Cache C I R A T → Evaluation D C V P F I R A T → ℕ → Type 0 where
+  NotRefused : (goals : List (OpenGoal C F I R A T)) → None ≡ question_depth G e → AskingFails G old e starts old (record e { goals = goals; limits_met = true }) starts
+  NotAnsweredAt :
+      (depth : AvailableDepth) (goals : List (OpenGoal C F I R A T)) (held : List V) (nodes : List (CacheNode I R)) (later : ℕ)
+      → Some depth.0 ≡ question_depth G e → starts ≤ later → later ≤ starts + 1
+      → AskingFails G old e starts (record old { nodes = nodes }) (record e { goals = goals; scopes = held }) later
+
+-- A question adds at most a node, and meets a limit if it has no depth, also where memory was out.
+pub record Asks {D C V P F I R A T : Type 0} (G : DelegateOf D C V P F I R A T) (same : I → I → Bool) (old : Cache C I R A T) (e : Evaluation D C V P F I R A T) (new : Cache C I R A T) (after : Evaluation D C V P F I R A T) : Type 0 where
+  pub cache : KeepsCache same e.goals old new
+  pub same_results : new.results ≡ old.results
+  pub same_drafts : after.drafts ≡ e.drafts
+  pub meets : after.limits_met ≡ (e.limits_met || is_none (question_depth G e))

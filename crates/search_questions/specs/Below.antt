@@ -43,4 +43,4 @@ pub use Rattle.search_rules.specs.Provisional.{IsReady}
 pub use Rattle.search_rules.specs.Runs.{StayFrom}
 pub use Rattle.search_rules.specs.Runs.{run_of, runs_of}
 pub use Rattle.between_moves.specs.Evaluations.{GoesOnWith, HasRequest, IsRight, IsRightFor, KeepsCache, Requests, StartsFrame, StopsWith}
-pub use Rattle.search_state.specs.Drafts.{AreNotedNodes, IsOfStored, LeavesReached, noted}
+pub use Rattle.search_state.specs.Drafts.{AreNotedNodes, LeavesReached, noted}

@@ -1,5 +1,5 @@
 -- Nodes that a call wrote are let go once nothing leads to them any more.
-use Rattle.std.specs.Prelude.{◌≡◌, ◌<◌, ℕ, All, Bool, Contains, IsTrue, List, Option, slice_get}
+use Rattle.std.specs.Prelude.{◌≡◌, ◌<◌, ◌⊎◌, ℕ, All, Bool, Contains, IsTrue, List, Option, slice_get, Some}
 use Rattle.std.specs.Option.{IfSome}
 use Rattle.open_goals.specs.Nodes.{HasNodes}
 use Rattle.graph_nodes.specs.Collected.{Collected}
@@ -36,4 +36,4 @@ module _ {D C V P F I R A T : Type 0} (same : I → I → Bool) where
     pub answer : IsLiveNode live target
     pub earlier : (at : ℕ) → at < e.drafts.first → slice_get new.nodes at ≡ slice_get old.nodes at
     pub rest : new ≡ record old { nodes = new.nodes }
-    pub leaves : LeavesReached same e.drafts.first target new
+    pub leaves : LeavesReached e.drafts.first (λ root. (target ≡ Some root) ⊎ Contains e.drafts.stored.items root) new

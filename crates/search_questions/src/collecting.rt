@@ -74,7 +74,7 @@ pub fn collect_at_end<D: Delegate>(
 }
 
 /// Gives up the goals under evaluation, after a fault, and lets go of the call's nodes to which no node leads that is
-/// noted. The goals and the entries are let go first, so that there is room to find out which nodes these are.
+/// noted. The goals, the scopes and the entries are let go first, so that there is room to find out which nodes these are.
 /// `NoMemory` where there is none even so, and then all stay.
 pub fn give_up<D: Delegate>(
     evaluation: &mut Evaluation<D>,
@@ -85,7 +85,8 @@ pub fn give_up<D: Delegate>(
     ensures settles { OnOk result
         (LetsGoAtEnd D.Cx.Input.eq evaluation.old None cache.old cache.new) }
     ensures refused { OnErr result (cache.new ≡ cache.old) }
-    ensures rest { evaluation.new ≡ record evaluation.old { goals = []; provisional = [] } }
+    ensures rest { evaluation.new
+        ≡ record evaluation.old { goals = []; scopes = []; provisional = [] } }
 {
     evaluation.release();
     collect_at_end(evaluation, cache, None)

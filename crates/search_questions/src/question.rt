@@ -1,11 +1,12 @@
 //! What a question comes to: it is refused, or answered by a provisional entry, a stored result or a goal that is
 //! under evaluation already, or its goal is pushed.
-ghost use Rattle.std.specs.Prelude.{◌≡◌, ◌<◌, ◌||◌, ◌∷◌, ◌+◌, ◌^◌, ◌≤◌, ℕ, false, length, map, reverse, unwrap_or, IfOk, IfSome, OnOk, OnErr, Some, None};
+ghost use Rattle.std.specs.Prelude.{◌≡◌, ◌<◌, ◌||◌, ◌∷◌, ◌+◌, ◌^◌, ◌≤◌, ℕ, false, is_some, length, map, reverse, unwrap_or, IfOk, IfSome, OnOk, OnErr, Some, None};
 ghost use Rattle.std.specs.List.{list_any, position};
 ghost use Rattle.std.specs.Option.{is_none, option_copied, option_map, option_and_then};
-ghost use Rattle.search_questions.specs.Below.{depth_below, KeepsBuilder, KeepsNodes, ProvisionalCacheEntry, Evaluate, Memory, newest, Call, ClosesCycle, Pushes, fates_of, HaveExpected, Begin, hit_of, AreOnStack, usable_entry, is_applicable, first_accepted, usable, IsFated, HasRequest, Requests, StopsWith, KeepsCache, StartsFrame};
-ghost use Rattle.search_rules.specs.Words.{Consults, IsUsable};
-ghost use Rattle.search_questions.specs.Words.{AskingLeadsTo, IsAnsweredAtLimit, IsAnsweredByEntry, IsAnsweredByHit, question_depth};
+ghost use Rattle.search_questions.specs.Below.{depth_below, KeepsBuilder, KeepsNodes, ProvisionalCacheEntry, Evaluate, newest, ClosesCycle, Pushes, fates_of, HaveExpected, Begin, hit_of, AreOnStack, usable_entry, is_applicable, first_accepted, usable, IsFated, HasRequest, StartsFrame};
+ghost use Rattle.search_rules.specs.Words.{Consults, is_compared, IsUsable};
+ghost use Rattle.search_state.specs.Scopes.{held_over};
+ghost use Rattle.search_questions.specs.Words.{AskingFails, AskingLeadsTo, Asks, IsAnsweredAtLimit, IsAnsweredByEntry, IsAnsweredByHit, question_depth};
 
 use global_cache::GlobalCache;
 use open_goals::goals::OpenGoals;
@@ -20,6 +21,7 @@ use search_stack::depth::{AvailableDepth, StackDepth};
 use search_stack::result::CacheData;
 use search_stack::stack::StackEntry;
 use search_state::evaluation::Evaluation;
+use search_state::scopes::HeldScopes;
 
 /// Answers the newest goal's question, or pushes the asked goal, whose frame then begins. A question
 /// of a goal without depth is refused, which meets a limit.
@@ -38,16 +40,10 @@ pub fn ask<D: Delegate>(
         AskingLeadsTo D.Delegate D.Cx.Cx D.Cx.Input.eq cache.old.cx kind input (D.noop inspect.old)
         cache.old evaluation.old (D.starts inspect.old) received
         cache.new evaluation.new (D.starts inspect.new)) }
-    ensures meets { evaluation.new.limits_met
-        ≡ (evaluation.old.limits_met || is_none (question_depth D.Delegate evaluation.old)) }
-    ensures stops { (call : Call D.Cx.Input) (ahead : ℕ) →
-        Requests D.Delegate D.Cx.Cx D.Cx.Input.eq cache.old.cx (Evaluate kind input) call ahead
-        cache.old evaluation.old (D.starts inspect.old) →
-        OnErr result (StopsWith D.Delegate D.Cx.Cx D.Cx.Input.eq cache.old.cx call Memory
-        cache.new evaluation.new (D.starts inspect.new)) }
-    ensures keeps { KeepsCache D.Cx.Input.eq evaluation.old.goals cache.old cache.new }
-    ensures same_results { cache.new.results ≡ cache.old.results }
-    ensures same_drafts { evaluation.new.drafts ≡ evaluation.old.drafts }
+    ensures fails { OnErr result (AskingFails D.Delegate cache.old evaluation.old
+        (D.starts inspect.old) cache.new evaluation.new (D.starts inspect.new)) }
+    ensures asks { Asks D.Delegate D.Cx.Input.eq cache.old evaluation.old
+        cache.new evaluation.new }
     ensures builder { KeepsBuilder D.starts D.noop inspect.old inspect.new }
 {
     // A question is refused before anything is looked up: whether a search is too deep must not depend on
@@ -78,7 +74,10 @@ fn ask_at<D: Delegate>(
         AskingLeadsTo D.Delegate D.Cx.Cx D.Cx.Input.eq cache.old.cx kind input (D.noop inspect.old)
         cache.old evaluation.old (D.starts inspect.old) received
         cache.new evaluation.new (D.starts inspect.new)) }
-    ensures rest { evaluation.new ≡ record evaluation.old { goals = evaluation.new.goals } }
+    ensures rest { evaluation.new ≡ record evaluation.old {
+      goals = evaluation.new.goals;
+      scopes = evaluation.new.scopes;
+    } }
     ensures cache { cache.new ≡ record cache.old { nodes = cache.new.nodes } }
     ensures kept { KeepsNodes cache.old.nodes cache.new.nodes }
     ensures builder { KeepsBuilder D.starts D.noop inspect.old inspect.new }
@@ -110,7 +109,7 @@ fn ask_at<D: Delegate>(
         return answer_cycle(evaluation, cx, kind, input, head);
     }
     push_goal(evaluation, cache, kind, input, depth, fate, inspect)?;
-    begin_in_scope(&mut evaluation.goals, scope)
+    begin_in_scope(&mut evaluation.scopes, scope)
 }
 
 /// Answers the newest goal's question of a goal that is under evaluation at `head`, by its provisional
@@ -215,7 +214,7 @@ fn cycle_result<D: Delegate>(
 
 /// Refuses the question of this goal, which the newest one asks.
 fn refuse<D: Delegate>(
-    goals: &mut OpenGoals<D::Cx, D::Frame, D::ValidationScope>,
+    goals: &mut OpenGoals<D::Cx, D::Frame>,
     cx: D::Cx,
     input: <D::Cx as Cx>::Input,
 ) -> Result<Received<<D::Cx as Cx>::Result>, NoMemory>
@@ -231,7 +230,7 @@ fn refuse<D: Delegate>(
 /// The provisional entry that answers the question of this goal, which the newest one asks over the step.
 fn entry_for<'a, D: Delegate>(
     provisional: &'a ProvisionalCache<D>,
-    goals: &OpenGoals<D::Cx, D::Frame, D::ValidationScope>,
+    goals: &OpenGoals<D::Cx, D::Frame>,
     step: PathKind,
     input: <D::Cx as Cx>::Input,
 ) -> Option<&'a ProvisionalCacheEntry<D::Cx>>
@@ -247,7 +246,7 @@ fn entry_for<'a, D: Delegate>(
 fn consult_for<'a, D: Delegate>(
     cache: &'a GlobalCache<D>,
     provisional: &ProvisionalCache<D>,
-    goals: &OpenGoals<D::Cx, D::Frame, D::ValidationScope>,
+    goals: &OpenGoals<D::Cx, D::Frame>,
     step: PathKind,
     input: <D::Cx as Cx>::Input,
     depth: AvailableDepth,
@@ -265,6 +264,7 @@ fn consult_for<'a, D: Delegate>(
     ensures usable { IfSome result.stored (λ stored.
         IsUsable D.Cx.Input.eq (D.script cache.now.cx) cache.now.results input depth.0
         (hit_of stored)) }
+    ensures scope { is_some result.scope ≡ is_compared result.fate }
     ensures builder { KeepsBuilder D.starts D.noop inspect.old inspect.new }
     ensures same_starts { D.starts inspect.new ≡ D.starts inspect.old }
 {
@@ -280,8 +280,8 @@ fn consult_for<'a, D: Delegate>(
 }
 
 /// Answers the newest goal's question, asked over the step, by a provisional entry.
-fn answer_by_entry<X: Cx, F: Drop, S: Drop>(
-    goals: &mut OpenGoals<X, F, S>,
+fn answer_by_entry<X: Cx, F: Drop>(
+    goals: &mut OpenGoals<X, F>,
     step: PathKind,
     entry: &ProvisionalCacheEntry<X>,
 ) -> Result<Received<X::Result>, NoMemory>
@@ -297,8 +297,8 @@ fn answer_by_entry<X: Cx, F: Drop, S: Drop>(
 }
 
 /// Answers the newest goal's question, asked over the step, by a stored result.
-fn answer_by_stored<X: Cx, F: Drop, S: Drop>(
-    goals: &mut OpenGoals<X, F, S>,
+fn answer_by_stored<X: Cx, F: Drop>(
+    goals: &mut OpenGoals<X, F>,
     step: PathKind,
     stored: &CacheData<'_, X>,
 ) -> Result<Received<X::Result>, NoMemory>
@@ -315,13 +315,14 @@ fn answer_by_stored<X: Cx, F: Drop, S: Drop>(
 }
 
 /// The newest goal begins. The scope is held until it is done.
-fn begin_in_scope<X: Cx, F: Drop, S: Drop>(
-    goals: &mut OpenGoals<X, F, S>,
+fn begin_in_scope<R: Copy, S: Drop>(
+    scopes: &mut HeldScopes<S>,
     scope: Option<S>,
-) -> Result<Received<X::Result>, NoMemory>
-    ensures begins { IfOk result (λ received. received ≡ record { reply = Begin; node = None }) }
-    ensures same { goals.new ≡ goals.old }
+) -> Result<Received<R>, NoMemory>
+    ensures begins { IfOk result (λ received.
+        (received ≡ record { reply = Begin; node = None })
+        × (scopes.new ≡ held_over scope scopes.old)) }
 {
-    goals.hold(scope)?;
+    scopes.hold(scope)?;
     Ok(Received::without_node(Reply::Begin))
 }

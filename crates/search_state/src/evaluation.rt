@@ -3,6 +3,7 @@ ghost use Rattle.std.specs.Prelude.{◌≡◌, ◌<◌, ◌^◌, []};
 ghost use Rattle.search_state.specs.Drafts.{HasNoDrafts};
 
 use crate::drafts::Drafts;
+use crate::scopes::HeldScopes;
 use global_cache::GlobalCache;
 use lean_runs::lean::LeanRuns;
 use open_goals::goals::OpenGoals;
@@ -16,12 +17,13 @@ use std::alloc::Global;
 /// the stack, each provisional entry and each stored result has a run, so what is kept else is no more than these need.
 const MOST_RUNS: usize = 256;
 
-/// The goals that are under evaluation in one call, each on the stack with its run, and what else the call has
-/// until it ends. The moves of the search are functions over it: a goal asks (`search_questions`), or its run ends
+/// The goals that are under evaluation in one call, each on the stack with its run, the scopes that are held for those whose
+/// results are to be compared with stored ones, and what else the call has until it ends. The moves of the search are functions over it: a goal asks (`search_questions`), or its run ends
 /// (`search_ends`). Between two moves nodes may be let go.
 #[derive(Drop)]
 pub struct Evaluation<D: Delegate> {
-    pub goals: OpenGoals<D::Cx, D::Frame, D::ValidationScope>,
+    pub goals: OpenGoals<D::Cx, D::Frame>,
+    pub scopes: HeldScopes<D::ValidationScope>,
     pub provisional: ProvisionalCache<D>,
     pub root_depth: AvailableDepth,
     pub limits_met: bool,
@@ -40,6 +42,7 @@ impl<D: Delegate> Evaluation<D> {
     ) -> Evaluation<D>
         ensures begins { result ≡ record {
           goals = [];
+          scopes = [];
           provisional = [];
           root_depth = root_depth;
           limits_met = limits_met;
@@ -51,6 +54,7 @@ impl<D: Delegate> Evaluation<D> {
     {
         Evaluation {
             goals: OpenGoals::new(alloc),
+            scopes: HeldScopes::new(alloc),
             provisional: ProvisionalCache::new(alloc),
             root_depth,
             limits_met,
@@ -65,6 +69,7 @@ impl<D: Delegate> Evaluation<D> {
     pub fn begin(&mut self, root_depth: AvailableDepth, limits_met: bool, cache: &GlobalCache<D>)
         ensures begins { self.new ≡ record {
           goals = [];
+          scopes = [];
           provisional = [];
           root_depth = root_depth;
           limits_met = limits_met;
@@ -85,8 +90,12 @@ impl<D: Delegate> Evaluation<D> {
     /// Ends over this cache. What a fault has left is let go, and so is the memory of a call of many runs, which few calls
     /// would fill again; that of a short one serves the next call.
     pub fn end(&mut self, cache: &GlobalCache<D>)
-        ensures { self.new
-            ≡ record self.old { goals = []; provisional = []; drafts = self.new.drafts } }
+        ensures { self.new ≡ record self.old {
+          goals = [];
+          scopes = [];
+          provisional = [];
+          drafts = self.new.drafts;
+        } }
     {
         if self.drafts.written(cache) > MOST_RUNS {
             self.release();
@@ -97,20 +106,21 @@ impl<D: Delegate> Evaluation<D> {
         self.empty();
     }
 
-    /// Lets go of the goals and the entries that are left, and of their memory.
+    /// Lets go of the goals, the scopes and the entries that are left, and of their memory.
     pub fn release(&mut self)
-        ensures { self.new ≡ record self.old { goals = []; provisional = [] } }
+        ensures { self.new ≡ record self.old { goals = []; scopes = []; provisional = [] } }
     {
         let alloc = self.goals.allocator();
         self.goals = OpenGoals::new(alloc);
+        self.scopes = HeldScopes::new(alloc);
         self.provisional = ProvisionalCache::new(alloc);
     }
 
-    /// Lets go of the goals and the entries that are left, as they are after a fault.
+    /// Lets go of the goals, the scopes and the entries that are left, as they are after a fault.
     fn empty(&mut self)
-        ensures { self.new ≡ record self.old { goals = []; provisional = [] } }
+        ensures { self.new ≡ record self.old { goals = []; scopes = []; provisional = [] } }
     {
-        if self.goals.len() > 0 || !self.provisional.is_empty() {
+        if self.goals.len() > 0 || !self.scopes.is_empty() || !self.provisional.is_empty() {
             self.release();
         }
     }

@@ -1,12 +1,12 @@
 -- What is shown of an answer is right.
-use Rattle.std.proofs.Common.{◌≡◌, ◌∙◌, ℕ, List, Option, None, Some, Result, Ok, Err, IfOk, inl, inr, true, refl, subst, sym}
+use Rattle.std.proofs.Common.{◌≡◌, ◌∙◌, ℕ, Bool, List, Option, None, Some, Result, Ok, Err, IfOk, IfSome, inl, inr, true, refl, subst, sym}
 use Rattle.std.specs.Option.{IsSomeAnd}
 use Rattle.std.specs.Prelude.{IfErr}
 use Rattle.open_graphs.specs.Graph as theory
 use Rattle.search_context.specs.Verdicts.{verdict_of as said_of}
 use Rattle.search_context.specs.declared.context.Verdict.TheVariants as verdict
 use Rattle.shown_graphs.specs.Asked.{IsToldAs}
-use Rattle.shown_graphs.specs.Below.{Answer, AreVerdicts, CacheNode, Coinductive, Fault, Goal, HasGraph, Inductive, IsDefinite, IsValid, IsValidFor, Maybe, Memory, No, Node, NodeId, Outcome, Overflow, Reply, Request, Verdicts, Yes}
+use Rattle.shown_graphs.specs.Below.{Answer, AreVerdicts, CacheNode, Coinductive, Fault, Goal, HasGraph, Inductive, IsDefinite, IsReason, IsValid, IsValidFor, Maybe, Memory, No, Node, NodeId, Outcome, Overflow, Reason, Reply, Request, Verdicts, Yes}
 use Rattle.graph_pages.specs.Checked.{IsRightlyShown, outcome_of, ShowsGraph, verdict_of}
 use Rattle.graph_pages.specs.declared.answer.Came.{Came}
 
@@ -67,3 +67,15 @@ module _ {C : Type 0} (says : Verdicts Outcome) (scripts : C → Goal → List (
 
   pub right_under : (question : ℕ × Goal) (told : Came) → IsRightlyShown says (scripts a) question told → IsRightlyShown says (scripts b) question told
   right_under question told right = subst (λ cx. IsRightlyShown says (scripts cx) question told) same right
+
+-- the reason that is told is the one that was noted
+pub reason_told : (told : Option Reason) (came : Result (Answer Outcome) (Fault Goal Outcome)) (noted : Reason) (run limited run_then limited_then : Bool) → IfSome told (λ reason. reason ≡ noted) →
+    IfOk came (λ answer. IsReason run limited answer.result noted) → run ≡ run_then → limited ≡ limited_then → IfSome told (λ reason. IfOk came (λ answer. IsReason run_then limited_then answer.result reason))
+reason_told None came noted run limited run_then limited_then is fits runs limits = tt
+reason_told (Some reason) came noted run limited run_then limited_then is fits runs limits =
+    subst (λ r. IfOk came (λ answer. IsReason run_then limited_then answer.result r)) (sym is)
+    (subst (λ l. IfOk came (λ answer. IsReason run_then l answer.result noted)) limits (subst (λ r. IfOk came (λ answer. IsReason r limited answer.result noted)) runs fits))
+
+pub none_told : (told : Option Reason) (noted : Reason) → told ≡ None → IfSome told (λ reason. reason ≡ noted)
+none_told None noted none = tt
+none_told (Some reason) noted none = absurd cc

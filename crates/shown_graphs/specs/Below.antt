@@ -12,6 +12,13 @@ pub use Rattle.rule_tables.specs.declared.rules.Rules.{Rules}
 pub use Rattle.search_context.specs.Rank.{IsPlainValue}
 pub use Rattle.search_context.specs.Valid.{IsValid, IsValidFor}
 pub use Rattle.search_context.specs.Verdicts.{IsDefinite, verdicts, Verdicts}
+pub use Rattle.global_cache.specs.Cache.{Cache}
+pub use Rattle.search_context.specs.declared.context.Cx.{Ghosts as CxOf}
+pub use Rattle.search_context.specs.declared.context.Delegate.{Ghosts as DelegateOf}
+pub use Rattle.search_graph.specs.Called.{HasRun}
+pub use Rattle.search_graph.specs.Graph.{Graph}
+pub use Rattle.watched_runs.specs.Reasons.{IsReason}
+pub use Rattle.watched_runs.specs.declared.watch.Reason.{Reason}
 pub use Rattle.search_context.specs.declared.context.Answer.{Answer}
 pub use Rattle.search_context.specs.declared.context.Fault.{Fault}
 pub use Rattle.search_context.specs.declared.context.Fault.TheVariants.{Memory}

@@ -182,5 +182,13 @@ module _ (graph : List (List ℕ)) (states after : List State) (left opened star
       | inl old ↦ let low = h.numbered a n old in omega arith
       | inr now ↦ let same = now.3 in omega arith
     ];
+    used = λ number below. elim (cases_lt number closed) [
+      | inl old ↦ let (a, is) = h.used number old in (a, closes a ∙ ap (closed_from position closed) is)
+      | inr above ↦
+          let a = slice_index opened position in
+          let same : closed ≡ number = omega arith in
+          let now_open = h.are_opened.placed position within in
+          (a, closes a ∙ ap (closed_from position closed) now_open ∙ closed_from-above position closed position (omega arith) ∙ ap Closed same)
+    ];
     room = let s = pops_start.shorter in let n = news in let r = h.room in omega arith;
   }

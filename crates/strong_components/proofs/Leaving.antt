@@ -48,5 +48,6 @@ leave_keeps graph states left opened starts path front closed position h ends po
   closed_reach = h.closed_reach;
   looked_at = h.looked_at;
   numbered = h.numbered;
+  used = h.used;
   room = h.room;
 }

@@ -72,5 +72,6 @@ module _ (graph : List (List ℕ)) (states : List State) (left opened starts pat
       | inr other ↦ let at = elsewhere a other in h.looked_at a k lt (omega arith)
     ];
     numbered = h.numbered;
+    used = h.used;
     room = h.room;
   }

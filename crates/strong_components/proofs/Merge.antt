@@ -72,6 +72,7 @@ merge_keeps graph states left opened starts path fewer closed from place positio
         closed_reach = h.closed_reach;
         looked_at = λ a k inside looked. may-step-starts starts fewer _ _ (λ i j is. from-fewer starts fewer found rises pops i j) (h.looked_at a k inside looked);
         numbered = h.numbered;
+        used = h.used;
         room = let f = pops.fewer in let r = h.room in omega arith;
       },
       may-step-at fewer (Open position) (state_at states place) (Open position) (Open found) refl is_place (λ k inside low. stays_low starts fewer found rises pops k inside),

@@ -1,6 +1,7 @@
 -- The numbers of the closed places, once all are closed.
-use Rattle.std.proofs.Common.{◌≡◌, ◌≢◌, ℕ, ◌<◌, ◌≤◌, List, [], length, map, slice_index, slice_index_or, arith, ap, ◌∙◌, subst, refl}
-use Rattle.std.proofs.lemmas.List.{get_or-map, length-map}
+use Rattle.std.proofs.Common.{◌≡◌, ◌≢◌, ℕ, ◌<◌, ◌≤◌, List, [], Contains, length, map, slice_index, slice_index_or, arith, ap, inl, inr, sym, ◌∙◌, subst, refl}
+use Rattle.std.proofs.lemmas.Bool.{cases_lt}
+use Rattle.std.proofs.lemmas.List.{get_or-map, get_or_past, length-map}
 use Rattle.strong_components.specs.Words.{State, New, Open, Closed, AreComponents, StaysInside, IsOngoing, MayStep, number_of, state_at}
 use Rattle.strong_components.proofs.Idle.{none_opened}
 use Rattle.strong_components.proofs.Indexes.{at_index}
@@ -30,6 +31,22 @@ module _ (graph : List (List ℕ)) (states : List State) (left opened starts pat
   number_at : (a : ℕ) → a < length graph → slice_index (map number_of states) a ≡ number_of (state_at states a)
   number_at a lt = get_or-map number_of states a New 0 (let f = h.fit in omega arith)
 
+  -- the place of a closed state is one of the graph
+  closed_inside : (a number : ℕ) → state_at states a ≡ Closed number → a < length states
+  closed_inside a number is = elim (cases_lt a (length states)) [
+    | inl lt ↦ lt
+    | inr past ↦ let none = get_or_past states a New past in absurd cc
+  ]
+
+  lower_given : (number : ℕ) → Contains (map number_of states) number → (lower : ℕ) → lower < number → Contains (map number_of states) lower
+  lower_given number (i, inside_map, at) lower low =
+      let long = length-map states number_of in
+      let same : number_of (state_at states i) ≡ number = sym (get_or-map number_of states i New number (omega arith)) ∙ at in
+      let below = h.numbered i number (is_closed i (let f = h.fit in omega arith) ∙ ap Closed same) in
+      let (a, is) = h.used lower (omega arith) in
+      let within = closed_inside a lower is in
+      (a, omega arith, get_or-map number_of states a New lower within ∙ ap number_of is)
+
   pub numbers_are_components : AreComponents graph (map number_of states)
   numbers_are_components = record {
     each = length-map states number_of ∙ h.fit;
@@ -45,4 +62,5 @@ module _ (graph : List (List ℕ)) (states : List State) (left opened starts pat
         let at_a = number_at a in_a in let at_b = number_at b in_b in
         let same_number : number_of (state_at states b) ≡ number_of (state_at states a) = omega arith in
         h.closed_reach a b (number_of (state_at states a)) (is_closed a in_a) (is_closed b in_b ∙ ap Closed same_number);
+    from_zero = lower_given;
   }

@@ -180,6 +180,9 @@ module _ (graph : List (List ℕ)) (states : List State) (left opened starts pat
     closed_reach = λ a b number is_a is_b. h.closed_reach a b number (was_closed a number is_a) (was_closed b number is_b);
     looked_at = looked;
     numbered = λ a number is. h.numbered a number (was_closed a number is);
+    used = λ number below.
+        let (a, is) = h.used number below in
+        (a, elsewhere a (λ e. let new = subst (λ b. state_at states b ≡ New) (sym e) was_new in cc) ∙ is);
     room =
         let news = news-set states place (Open (length opened)) inside in
         let one : ◌≡◌ {A = ℕ} (cond (is_new (state_at states place)) 1 0) 1 = ap (λ x. cond (is_new x) 1 0) was_new in

@@ -62,6 +62,7 @@ nothing_found graph =
       closed_reach = λ a b number is other. let same = new a in cc;
       looked_at = λ a k within seen. absurd (omega (arith, at a));
       numbered = λ a number is. let same = new a in cc;
+      used = λ number below. absurd (omega arith);
       room = omega (arith, new_counted (length graph));
     }
 

@@ -21,13 +21,14 @@ pub data Reaches (graph : List (List ℕ)) : ℕ → ℕ → Type 0 where
   go : {a b c : ℕ} → HasStep graph a b → Reaches graph b c → Reaches graph a c
 
 -- The number of each place's component: numbers never rise along a step, and places with one number reach each other.
--- So two places have the same number exactly when each reaches the other.
+-- So two places have the same number exactly when each reaches the other. Each number below one that is given is given, too.
 pub record AreComponents (graph : List (List ℕ)) (numbers : List ℕ) : Type 0 where
   pub each : length numbers ≡ length graph
   pub falls : (a b : ℕ) → HasStep graph a b → slice_index numbers b ≤ slice_index numbers a
   pub together :
       (a b : ℕ)
       → a < length graph → b < length graph → slice_index numbers a ≡ slice_index numbers b → Reaches graph a b
+  pub from_zero : (number : ℕ) → Contains numbers number → (lower : ℕ) → lower < number → Contains numbers lower
 
 -- A step lies on a closed walk exactly when it stays in its component.
 abbrev pub StepsWithinClose : Type 0

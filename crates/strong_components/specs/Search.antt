@@ -87,6 +87,7 @@ pub record IsOngoing (graph : List (List ℕ)) (states : List State) (left opene
       → k < length (slice_index_or graph a []) → slice_index left a ≤ k
       → MayStep starts (state_at states a) (state_at states (slice_index (slice_index_or graph a []) k))
   pub numbered : (a number : ℕ) → state_at states a ≡ Closed number → number < closed
+  pub used : (number : ℕ) → number < closed → (a : ℕ) × (state_at states a ≡ Closed number)
   pub room : closed + length starts + count_by is_new states ≤ length graph
 
 abbrev pub IsSearch : List (List ℕ) → Search → Type 0

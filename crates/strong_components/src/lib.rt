@@ -13,7 +13,7 @@ mod search;
 use search::Search;
 use std::alloc::{AllocError, Global};
 
-/// The number of each place's component. Numbers start at 0 and never rise along a step, and two places
+/// The number of each place's component. Numbers go from 0 without a gap and never rise along a step, and two places
 /// have the same number exactly when each is reached from the other. Takes time and memory in proportion to
 /// the places and steps of the graph. The only error is that memory ran out.
 pub fn components(alloc: Global, graph: &[Vec<usize>]) -> Result<Vec<usize>, AllocError>

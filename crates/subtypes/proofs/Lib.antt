@@ -1,2 +1,4 @@
 pub mod Telling
 pub mod Refused
+pub mod Searching
+pub mod Stops

@@ -1,3 +1,4 @@
 pub mod Answers
 pub mod Program
+pub mod Search
 pub mod Stop

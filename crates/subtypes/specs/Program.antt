@@ -18,4 +18,4 @@ pub data IsRefused (text : List ℕ) : Type 0 where
   Malformed : (line : ℕ) → IsFirstBadLine text line → IsRefused text
   Twice : (line : ℕ) → IsDeclaredTwice text line → IsRefused text
   Undeclared : (line : ℕ) → IsUndeclared text line → IsRefused text
-  Unguarded : IsUnguarded text → IsRefused text
+  Unguarded : (line : ℕ) → IsUnguarded text line → IsRefused text

@@ -3,6 +3,7 @@
 //! | File of `specs/` | Has |
 //! |---|---|
 //! | `Answers` | what the answers of a text's questions are |
+//! | `Search` | what the search for a reason has found |
 //! | `Stop`, `Program` | why the program ends early, and what a run of it came to |
 #![tactic(auto)]
 

@@ -6,75 +6,15 @@ ghost use Rattle.subtypes.specs.Stop.{status_of};
 
 mod questions;
 mod reason;
+mod stop;
 
-use line_texts::{Flush, InputFault, read_input};
+use line_texts::{Flush, read_input};
 use questions::answer_questions;
-use std::alloc::{AllocError, Global};
-use std::io;
+use std::alloc::Global;
 use std::io::{Read, Write};
-use thiserror::Error;
+use stop::{Stop, status_told};
 use type_order::Types;
-use type_texts::{ReadFault, TypeTable};
-
-/// Why the program ended early.
-#[derive(Clone, Copy, Debug, Error)]
-enum Stop {
-    #[error("{0}")]
-    Text(ReadFault),
-    #[error("input or output failed")]
-    InputOrOutput,
-    #[error("out of memory")]
-    Memory,
-}
-
-impl Stop {
-    ghost use Rattle.subtypes.specs.Stop.{status_of};
-
-    // The exit status.
-    fn status(self) -> u8
-        ensures { result ≡ status_of self }
-    {
-        match self {
-            Stop::Text(ReadFault::Memory) => 4,
-            Stop::Text(_) => 2,
-            Stop::InputOrOutput => 3,
-            Stop::Memory => 4,
-        }
-    }
-}
-
-impl From<AllocError> for Stop {
-    ghost use Rattle.subtypes.specs.declared.program.Stop.TheVariants.{Memory};
-
-    ghost from_gives = { λ _ stop. stop ≡ Memory };
-
-    fn from(_error: AllocError) -> Stop {
-        Stop::Memory
-    }
-}
-
-impl From<io::Error> for Stop {
-    ghost use Rattle.subtypes.specs.declared.program.Stop.TheVariants.{InputOrOutput};
-
-    ghost from_gives = { λ _ stop. stop ≡ InputOrOutput };
-
-    fn from(_error: io::Error) -> Stop {
-        Stop::InputOrOutput
-    }
-}
-
-impl From<InputFault> for Stop {
-    ghost use Rattle.subtypes.specs.Stop.{stopped_input};
-
-    ghost from_gives = { λ fault stop. stop ≡ stopped_input fault };
-
-    fn from(fault: InputFault) -> Stop {
-        match fault {
-            InputFault::Failed => Stop::InputOrOutput,
-            InputFault::Memory => Stop::Memory,
-        }
-    }
-}
+use type_texts::TypeTable;
 
 /// Reads types and questions and answers each question in order, on a line of its own: `NAME < NAME yes`, or `no` with
 /// the way to the reason, as `List < Stream no at tail.head: Text is not below Int`. A fault is told as
@@ -88,7 +28,7 @@ pub(crate) fn run<R: Read + Drop, W: Flush, E: Write + Drop>(
     alloc: Global,
     mut input: R,
     out: &mut W,
-    mut err: E,
+    err: E,
 ) -> u8
     ensures status { result ≤ 4 }
 
@@ -106,14 +46,8 @@ pub(crate) fn run<R: Read + Drop, W: Flush, E: Write + Drop>(
     ensures beginning { 2 < result → IsBrokenOff (R.remaining input)
         (W.contents out.old) (W.contents out.new) }
 {
-    match answer_input(alloc, &mut input, out) {
-        Ok(true) => 0,
-        Ok(false) => 1,
-        Err(stop) => {
-            let _ = writeln!(err, "{stop}");
-            stop.status()
-        }
-    }
+    let came = answer_input(alloc, &mut input, out);
+    status_told(came, err)
 }
 
 // Whether each question was answered without a fault.

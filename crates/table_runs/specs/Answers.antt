@@ -1,6 +1,6 @@
 -- What the answers of questions are, one after another over one cache.
 use Rattle.std.specs.Prelude.{◌≡◌, ℕ, ◌≤◌, max, Bool, true, false, List, [], ◌∷◌, Option, Ok, IfSome, IfOk, IfErr}
-use Rattle.table_runs.specs.Below.{CxOf, DelegateOf, Builder, is_noop_of, started_in, Cache, NodeId, Memory, Outcome, verdicts, HasGraph, IsDefinite, IsPlainTo, IsPlainValue, IsDecisive, AreDefinite, Called, Graph, HasRun, HaveNoOverflow, Inductive, IsPaid, IsCaused, first_accepted, usable, KeepsFinished, KeepsResults, frames_within, Goal, IsSoundCache, Rules, questions_of}
+use Rattle.table_runs.specs.Below.{CxOf, DelegateOf, Builder, is_noop_of, started_in, Cache, NodeId, Memory, Outcome, verdicts, HasGraph, IsDefinite, IsPlainTo, IsPlainValue, IsDecisive, AreDefinite, Called, Graph, HasRun, HaveNoOverflow, IsPaid, IsCaused, first_accepted, usable, KeepsFinished, KeepsResults, frames_within, Goal, IsSoundCache, Rules, questions_of}
 use Rattle.search_context.specs.declared.context.Answer.{Answer}
 use Rattle.line_texts.specs.Questions as asked
 use Rattle.table_runs.specs.Told.{AnsweredQuestion, AreRight, IsChecked, is_fine, line_of}
@@ -13,7 +13,6 @@ AreCountedStarts starts noop = (builder : Builder) → (starts builder ≡ start
 -- a call for the goal over the cache `before`, on this graph, that came to this answer
 abbrev pub call_on : {C A T : Type 0} → (noop : Bool) → Goal → (before : Cache C Goal Outcome A T) → Graph → (starts : ℕ) → Answer Outcome → (after : Cache C Goal Outcome A T) → (left : Graph) → (now : ℕ) → Called C Goal Outcome A T
 call_on noop goal before graph starts answer after left now = record {
-  kind = Inductive;
   goal = goal;
   noop = noop;
   looks_up = noop;

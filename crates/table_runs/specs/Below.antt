@@ -9,7 +9,6 @@ pub use Rattle.search_context.specs.Valid.{goal_nodes_of, IsValid, IsValidFor}
 pub use Rattle.search_context.specs.Graph.{IsProofGraph, IsRefutationGraph}
 pub use Rattle.determined.specs.Closed.{HasProof, HasRefutation}
 pub use Rattle.graph_nodes.specs.Definite.{HasGraph}
-pub use Rattle.path_kinds.specs.declared.path.PathKind.TheVariants.{Inductive}
 pub use Rattle.search_graph.specs.Below.{IsPaid}
 pub use Rattle.search_graph.specs.Called.{Called, HasRun}
 pub use Rattle.search_graph.specs.Graph.{Graph}

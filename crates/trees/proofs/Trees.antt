@@ -6,7 +6,7 @@ use Rattle.std.specs.Io.KnownBytes.{Appends}
 use Rattle.answer_lines.specs.Trees.{answer_words}
 use Rattle.line_texts.specs.Writing.{Passes}
 use Rattle.trees.specs.Below.{Answer, Builder, CxOf, DelegateOf, entries_of, Entry, Fault, Goal, inner_of, name_or_none, Outcome, Recorder, Rules, started_in, text_of, words_of}
-use Rattle.trees.specs.Shown.{AreWorkedOut, IsWorkedOut, ShownQuestion, tree_words}
+use Rattle.trees.specs.Shown.{AreWorkedOut, doubt_words, IsWorkedOut, ShownQuestion, tree_words}
 
 -- all of it was written, so nothing waits
 pub all_passed : (old new : Option (List ℕ)) (bytes : List ℕ) → Appends old new bytes → Passes old new bytes []
@@ -26,15 +26,22 @@ module _ {D C V F A T : Type 0} (G : DelegateOf D C V (Recorder Builder Goal Out
 -- the lines of a tree, piece by piece
 module _ (rules : Rules) (goal : Goal) (recorder : Recorder Builder Goal Outcome) (came : Result (Answer Outcome) (Fault Goal Outcome)) where
   same_words : (entries : List (Entry Goal Outcome)) (started : ℕ) → entries ≡ entries_of recorder → started ≡ started_in (inner_of recorder) →
-      text_of (words_of rules) entries ++ name_or_none rules goal ++ answer_words came started ≡ tree_words rules goal (record { recorder = recorder; came = came })
+      text_of (words_of rules) entries ++ doubt_words goal (record { recorder = recorder; came = came }) ++ name_or_none rules goal ++ answer_words came started
+      ≡ tree_words rules goal (record { recorder = recorder; came = came })
   same_words entries started e s =
-      ap (λ es. text_of (words_of rules) es ++ name_or_none rules goal ++ answer_words came started) e
-      ∙ ap (λ n. text_of (words_of rules) (entries_of recorder) ++ name_or_none rules goal ++ answer_words came n) s
+      let doubt = doubt_words goal (record { recorder = recorder; came = came }) in
+      ap (λ es. text_of (words_of rules) es ++ doubt ++ name_or_none rules goal ++ answer_words came started) e
+      ∙ ap (λ n. text_of (words_of rules) (entries_of recorder) ++ doubt ++ name_or_none rules goal ++ answer_words came n) s
 
-  pub tree_written : (entries : List (Entry Goal Outcome)) (started : ℕ) (old first second new : List ℕ) → entries ≡ entries_of recorder → started ≡ started_in (inner_of recorder) →
-      first ≡ old ++ text_of (words_of rules) entries → second ≡ first ++ name_or_none rules goal → new ≡ second ++ answer_words came started →
+  pub tree_written : (entries : List (Entry Goal Outcome)) (started : ℕ) (old first doubted second new : List ℕ) → entries ≡ entries_of recorder → started ≡ started_in (inner_of recorder) →
+      first ≡ old ++ text_of (words_of rules) entries → doubted ≡ first ++ doubt_words goal (record { recorder = recorder; came = came }) →
+      second ≡ doubted ++ name_or_none rules goal → new ≡ second ++ answer_words came started →
       new ≡ old ++ tree_words rules goal (record { recorder = recorder; came = came })
-  tree_written entries started old first second new e s tree name answer =
-      answer ∙ ap (λ l. l ++ answer_words came started) (name ∙ ap (λ l. l ++ name_or_none rules goal) tree ∙ append_assoc old (text_of (words_of rules) entries) (name_or_none rules goal))
-      ∙ append_assoc old (text_of (words_of rules) entries ++ name_or_none rules goal) (answer_words came started)
+  tree_written entries started old first doubted second new e s is_first is_doubted is_second is_new =
+      let lines = text_of (words_of rules) entries in
+      let doubt = doubt_words goal (record { recorder = recorder; came = came }) in
+      let name = name_or_none rules goal in
+      let with_doubt : doubted ≡ old ++ (lines ++ doubt) = is_doubted ∙ ap (λ l. l ++ doubt) is_first ∙ append_assoc old lines doubt in
+      let with_name : second ≡ old ++ (lines ++ doubt ++ name) = is_second ∙ ap (λ l. l ++ name) with_doubt ∙ append_assoc old (lines ++ doubt) name in
+      is_new ∙ ap (λ l. l ++ answer_words came started) with_name ∙ append_assoc old (lines ++ doubt ++ name) (answer_words came started)
       ∙ ap (λ l. old ++ l) (same_words entries started e s)

@@ -1,13 +1,13 @@
 -- What the crates below have, from one place.
-pub use Rattle.path_kinds.specs.declared.path.PathKind.TheVariants.{Inductive}
 pub use Rattle.delegate_parts.specs.Builder.{started_in}
 pub use Rattle.delegate_parts.specs.declared.builder.Builder.{Builder}
 pub use Rattle.delegate_parts.specs.declared.outcome.Outcome.{Outcome}
 pub use Rattle.proof_trees.specs.Recorder.{entries_of, inner_of, records}
 pub use Rattle.proof_trees.specs.Text.{text_of}
+pub use Rattle.proof_trees.specs.Whole.{is_whole}
 pub use Rattle.proof_trees.specs.declared.entry.Entry.{Entry}
 pub use Rattle.proof_trees.specs.declared.recorder.Recorder.{Recorder}
-pub use Rattle.rule_tables.specs.Rules.{questions_of}
+pub use Rattle.rule_tables.specs.Rules.{number_of, questions_of}
 pub use Rattle.rule_tables.specs.Text.{IsFirstBadLine, Reads}
 pub use Rattle.rule_tables.specs.declared.delegate.Table.{Table}
 pub use Rattle.rule_tables.specs.declared.rules.Goal.{Goal}

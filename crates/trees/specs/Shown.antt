@@ -1,8 +1,8 @@
 -- What is shown of questions.
-use Rattle.std.specs.Prelude.{◌≡◌, ℕ, ◌+◌, ◌≤◌, max, All, Bool, true, false, List, [], ◌∷◌, ◌++◌, is_ok, Option, Result, IfOk, IfErr}
+use Rattle.std.specs.Prelude.{◌≡◌, ℕ, ◌+◌, ◌≤◌, ◌&&◌, codes, if◌then◌else◌, nat_eq, not, max, All, Bool, true, false, List, [], ◌∷◌, ◌++◌, is_ok, Option, Result, IfOk, IfErr}
 use Rattle.answer_lines.specs.Trees.{answer_words}
 use Rattle.line_texts.specs.Questions as asked
-use Rattle.trees.specs.Below.{Answer, Builder, Cache, CxOf, DelegateOf, entries_of, Fault, frames_within, Goal, Graph, HasRun, Inductive, inner_of, IsCaused, IsPlainTo, IsPlainValue, IsProved, IsRefuted, Memory, name_or_none, Outcome, questions_of, Recorder, records, Rules, started_in, text_of, words_of}
+use Rattle.trees.specs.Below.{Answer, Builder, Cache, CxOf, DelegateOf, entries_of, Fault, frames_within, Goal, Graph, HasRun, inner_of, IsCaused, IsPlainTo, IsPlainValue, IsProved, IsRefuted, is_whole, Memory, name_or_none, number_of, Outcome, questions_of, Recorder, records, Rules, started_in, text_of, words_of}
 
 -- what was recorded of a question, and the answer or the fault that it came to
 pub record Tree : Type 0 where
@@ -17,10 +17,18 @@ ShownQuestion = asked.AnsweredQuestion (ℕ × Goal) Tree
 abbrev pub is_fine : Tree → Bool
 is_fine tree = is_ok tree.came
 
+-- two goals are the same
+abbrev pub same_goal : Goal → Goal → Bool
+same_goal a b = nat_eq (number_of a) (number_of b)
+
+-- Where a goal was answered, and what was recorded does not begin with its first run or not end with the end of one, a line says so.
+abbrev pub doubt_words : Goal → Tree → List ℕ
+doubt_words goal tree = if is_ok tree.came && not (is_whole same_goal goal (entries_of tree.recorder)) then codes "these entries are no tree\n" else []
+
 -- the lines of all that was recorded, and the line of what the goal came to, with the number of frames that were counted
 abbrev pub tree_words : Rules → Goal → Tree → List ℕ
 tree_words rules goal tree =
-    text_of (words_of rules) (entries_of tree.recorder) ++ name_or_none rules goal
+    text_of (words_of rules) (entries_of tree.recorder) ++ doubt_words goal tree ++ name_or_none rules goal
     ++ answer_words tree.came (started_in (inner_of tree.recorder))
 
 -- those of a question
@@ -60,7 +68,6 @@ module _ {D C V F A T : Type 0} (G : DelegateOf D C V (Recorder Builder Goal Out
     -- The call was made so, and left this graph: whether it met a limit, and what follows, are laws of calls.
     pub left : Graph
     pub ran : HasRun G X same same_result (record {
-      kind = Inductive;
       goal = shown.question.1;
       noop = G.noop fresh;
       looks_up = false;

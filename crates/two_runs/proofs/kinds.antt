@@ -8,4 +8,3 @@ pub mod PoppedEntries
 pub mod StandingApart
 pub mod Moves
 pub mod ApartMoves
-pub mod Asking

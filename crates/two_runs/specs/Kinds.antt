@@ -2,8 +2,9 @@
 -- reaches, and the paths on record are those of walks of questions.
 use Rattle.std.specs.Prelude.{◌≡◌, ◌⊎◌, ℕ, Bool, true, false, All, Contains, IsSome, length, List, [], ◌∷◌, Some}
 use Rattle.path_kinds.specs.Paths.{has_empty}
+use Rattle.search_graph.specs.Reaching.{AsksNewest, MayAsk, MayReach}
 use Rattle.two_runs.specs.Below.{at_depth, entries_at, has_kind, Heads, Lists, NestedPaths, OpenGoal, PathKind, paths_at, PathsToNested, ProvisionalCacheEntry, Reply, Request, StackDepth, Store, stored_at, StoredResult, Success}
-use Rattle.two_runs.specs.OneKind.{AsksByOneKind, MayAsk, MayLeadTo, MayReach}
+use Rattle.two_runs.specs.OneKind.{AsksByOneKind, MayLeadTo}
 
 -- no provisional entry is used, or goals that reach each other ask by one kind
 abbrev pub EntriesSuit : {I R : Type 0} → (enabled : Bool) → (I → List (Reply R) → Request I R) → Type 0
@@ -49,15 +50,10 @@ module _ {X F I R A T : Type 0} (scripts : I → List (Reply R) → Request I R)
   abbrev pub AreJoined : List (OpenGoal X F I R A T) → I → Heads → Type 0
   AreJoined goals goal heads = (depth : StackDepth) → IsSome (at_depth heads depth) → IsJoinedTo goals goal depth.0
 
-  -- the newest goal asks this question; an outer call asks for anything
-  abbrev pub AsksNewest : List (OpenGoal X F I R A T) → PathKind → I → Type 0
-  AsksNewest [] kind goal = Unit {0}
-  AsksNewest (s ∷ below) kind goal = MayAsk scripts s.0.input kind goal
-
   module _ (same : I → I → Bool) where
     -- the goal was asked by the one below it, is joined to its heads, and reaches its nested goals
     pub record IsLinked (s : OpenGoal X F I R A T) (below : List (OpenGoal X F I R A T)) : Type 0 where
-      pub asked : AsksNewest below s.0.step_kind_from_parent s.0.input
+      pub asked : AsksNewest scripts below s.0.step_kind_from_parent s.0.input
       pub heads : AreJoined below s.0.input s.0.state.heads
       pub nested : ReachesNested scripts same s.0.input s.0.state.nested_goals
 

@@ -2,13 +2,10 @@
 //! the delegate lets no provisional entry be used or goals that reach each other ask by one kind of step, a goal may be run
 //! twice, none of the goals is in a scope, the builder does not record, and the graphs of the stored results are settled. An
 //! empty cache is settled.
-ghost use Rattle.std.specs.Prelude.{◌≡◌, ℕ, false, [], Bool, List, Result};
-ghost use Rattle.path_kinds.specs.declared.path.PathKind.{PathKind};
-ghost use Rattle.search_context.specs.declared.context.Answer.{Answer};
+ghost use Rattle.std.specs.Prelude.{◌≡◌, false, [], List};
 ghost use Rattle.search_graph.specs.Called.{Called, HasRun};
-ghost use Rattle.search_graph.specs.Lists.{AllRan};
-ghost use Rattle.search_graph.specs.Words.{Graph};
-ghost use Rattle.two_runs.specs.Below.{Cache, CacheNode, Fault, Store, StoredResult};
+ghost use Rattle.search_graph.specs.Lists.{Listed, ListHasRun};
+ghost use Rattle.two_runs.specs.Below.{CacheNode, Store, StoredResult};
 ghost use Rattle.two_runs.specs.Enough.{IsDoneInTwoRuns, TakesTwoRuns, TwoRunsAreEnough};
 ghost use Rattle.two_runs.specs.Evaluations.{IsSettledStore};
 
@@ -30,14 +27,11 @@ pub fn two_runs<D: Delegate>()
 /// Of a list of calls each answer is yes or no, or its fault is want of memory or a request out of order; and two runs stay
 /// enough, whether there were faults or not.
 pub fn two_runs_of_all<D: Delegate>()
-    ensures { (noop : Bool) (old new : Cache D.Cx D.Cx.Input D.Cx.Result
-        D.Cx.AmbiguityInfo D.Cx.DepNodeIndex) (from to : ℕ)
-        (queries : List (ℕ × D.Cx.Input × PathKind))
-        (answers : List (Result (Answer D.Cx.Result) (Fault D.Cx.Input D.Cx.Result)))
-        (graphs : List Graph) →
-        AllRan D.Delegate D.Cx.Cx D.Cx.Input.eq D.Cx.Result.eq noop old from queries answers
-        graphs new to →
-        TakesTwoRuns D.Delegate D.Cx.Cx D.Cx.Input.eq noop queries old new answers }
+    ensures { (list : Listed D.Cx D.Cx.Input D.Cx.Result D.Cx.AmbiguityInfo
+        D.Cx.DepNodeIndex) →
+        ListHasRun D.Delegate D.Cx.Cx D.Cx.Input.eq D.Cx.Result.eq list →
+        TakesTwoRuns D.Delegate D.Cx.Cx D.Cx.Input.eq list.noop list.queries list.before
+        list.after list.answers }
 {}
 
 /// A call whose builder records leaves the stored results settled, whatever its goal is and however it ends.

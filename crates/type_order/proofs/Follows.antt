@@ -8,7 +8,7 @@ use Rattle.type_order.specs.Below.{Needs, All, Any, Question, IsWithin, Overlap,
 use Rattle.type_order.specs.Fields.{Field, has_all, part_of}
 use Rattle.type_order.specs.Subtypes.{Base, Bottom, Form, Function, IsBelow, IsRecord, IsSimulation, IsSupportedPair, IsUnion, Record, Top, Union}
 use Rattle.type_order.specs.Subtypes.IsSupportedPair.{BottomLeft, TopRight, SameWord, Functions, Records, EachLeft, SomeRight}
-use Rattle.type_order.specs.Rule.{alternatives_in, asks, Case, case_between, needs_in, pair, pairs_in, part_at, record_pairs, BetweenRecords, Fails, Holds}
+use Rattle.type_order.specs.Rule.{alternatives_in, asks, Case, case_between, needs_in, NeedsAll, pair, pairs_in, pairs_of, part_at, record_pairs, BetweenRecords, Fails, Holds}
 use Rattle.type_order.specs.declared.delegate.Pair.{Pair}
 use Rattle.type_order.proofs.Apart.{part_below}
 
@@ -33,11 +33,13 @@ member_part (f ∷ fs) field h = elim (cases_Bool (f.name == field.name)) [
   ]
 ]
 
-found : (o : Option ℕ) → is_some o ≡ true → (x : ℕ) × (o ≡ Some x)
+-- what is there is something
+pub found : (o : Option ℕ) → is_some o ≡ true → (x : ℕ) × (o ≡ Some x)
 found (Some x) e = (x, refl)
 found None e = absurd cc
 
-all_found : (ls rs : List Field) (field : Field) → has_all ls rs ≡ true → Contains rs field → is_some (part_of ls field.name) ≡ true
+-- each field has its fellow
+pub all_found : (ls rs : List Field) (field : Field) → has_all ls rs ≡ true → Contains rs field → is_some (part_of ls field.name) ≡ true
 all_found ls [] field e h = absurd (omega (arith, h.1))
 all_found ls (f ∷ fs) field e h = elim (cases_Bool (is_some (part_of ls f.name))) [
   | inl is ↦ elim (first_or_later f field fs h) [
@@ -253,3 +255,14 @@ module _ (forms : List Form) where
   pub supported : (pairs : List (ℕ × ℕ)) (l r : ℕ) (held : List (Question Pair)) → ((x y : ℕ) → Contains held (asks (pair x y)) → Contains pairs (x, y)) →
       Proves (needs_in (case_between (slice_get forms l) (slice_get forms r))) (map asks (pairs_in (case_between (slice_get forms l) (slice_get forms r)) (pair l r) (slice_get forms l) (slice_get forms r))) held → IsSupportedPair forms pairs l r
   supported pairs l r held into h = supported_by pairs l r held into (slice_get forms l) (slice_get forms r) refl refl h
+
+  -- so do pairs that have all that is asked for it, where all is needed
+  pub supported_by_all : (pairs : List (ℕ × ℕ)) (l r : ℕ) → NeedsAll forms (pair l r) →
+      ((x y : ℕ) → Contains (pairs_of forms (pair l r)) (pair x y) → Contains pairs (x, y)) → IsSupportedPair forms pairs l r
+  supported_by_all pairs l r all into =
+      let asked = pairs_of forms (pair l r) in
+      supported pairs l r (map asks asked)
+      (λ x y h.
+      let w = Contains-map asks asked (asks (pair x y)) h in
+      into x y (subst (Contains asked) (ap (λ q. q.goal) w.2) w.1))
+      (subst (λ needs. Proves needs (map asks asked) (map asks asked)) (sym all) (λ q h. h))

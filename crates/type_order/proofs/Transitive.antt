@@ -12,7 +12,7 @@ use Rattle.type_order.specs.Subtypes.IsSupportedPair.{BottomLeft, TopRight, Same
 use Rattle.type_order.proofs.Apart.{Contains-flat, flat-Contains, supported_more}
 
 -- a record, by its form
-record_form : (o : Option Form) (fields : List Field) → IsRecord o fields → (v : Vec Field) × (o ≡ Some (Record v)) × (v.items ≡ fields)
+pub record_form : (o : Option Form) (fields : List Field) → IsRecord o fields → (v : Vec Field) × (o ≡ Some (Record v)) × (v.items ≡ fields)
 record_form (Some (Record v)) fields e = (v, refl, e)
 record_form (Some (Base w)) fields e = absurd e
 record_form (Some Top) fields e = absurd e
@@ -21,7 +21,7 @@ record_form (Some (Function a b)) fields e = absurd e
 record_form (Some (Union v)) fields e = absurd e
 record_form None fields e = absurd e
 
-union_form : (o : Option Form) (alternatives : List ℕ) → IsUnion o alternatives → (v : Vec ℕ) × (o ≡ Some (Union v)) × (v.items ≡ alternatives)
+pub union_form : (o : Option Form) (alternatives : List ℕ) → IsUnion o alternatives → (v : Vec ℕ) × (o ≡ Some (Union v)) × (v.items ≡ alternatives)
 union_form (Some (Union v)) alternatives e = (v, refl, e)
 union_form (Some (Base w)) alternatives e = absurd e
 union_form (Some Top) alternatives e = absurd e
@@ -142,7 +142,7 @@ module _ (forms : List Form) (contractive : IsContractive forms) (pairs : List (
 
 module _ (forms : List Form) (some more : List (ℕ × ℕ)) (is_some : IsSimulation forms some) (is_more : IsSimulation forms more) where
   -- two simulations are one
-  both : IsSimulation forms (some ++ more)
+  pub both : IsSimulation forms (some ++ more)
   both l r h = elim (Contains-append_cases some more (l, r) h) [
     | inl first ↦ supported_more forms some (some ++ more) (λ x y k. Contains-append_left some more (x, y) k) l r (is_some l r first)
     | inr second ↦ supported_more forms more (some ++ more) (λ x y k. Contains-append_right some more (x, y) k) l r (is_more l r second)

@@ -1,5 +1,5 @@
 -- The rule of a pair of types, as a list of questions.
-use Rattle.std.specs.Prelude.{ℕ, ◌+◌, ◌==◌, if◌then◌else◌, List, [], ◌∷◌, map, length, sum_by, slice_get, Option, Some, None}
+use Rattle.std.specs.Prelude.{◌≡◌, ℕ, ◌+◌, ◌==◌, if◌then◌else◌, List, [], ◌∷◌, map, length, sum_by, slice_get, Option, Some, None}
 use Rattle.std.specs.Option.{unwrap_or}
 use Rattle.type_order.specs.Below.{Coinductive, Question, Needs, All, Any}
 use Rattle.type_order.specs.Fields.{Field, has_all, part_of}
@@ -84,6 +84,10 @@ pairs_of forms goal = pairs_in (case_of forms goal) goal (slice_get forms goal.l
 
 abbrev pub needs_of : List Form → Pair → Needs
 needs_of forms goal = needs_in (case_of forms goal)
+
+-- all that is asked for the pair is needed
+abbrev pub NeedsAll : List Form → Pair → Type 0
+NeedsAll forms goal = needs_of forms goal ≡ All
 
 abbrev pub questions_of : List Form → Pair → List (Question Pair)
 questions_of forms goal = map asks (pairs_of forms goal)

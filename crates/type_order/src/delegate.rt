@@ -43,7 +43,7 @@ pub struct PairsOf<T> {
 
 /// How a pair is decided, by the forms of its types.
 #[derive(Clone, Copy)]
-pub(crate) enum Case {
+pub enum Case {
     /// The left one is below the right one, whatever their parts are.
     Holds,
     /// It is not, whatever their parts are.
@@ -59,8 +59,8 @@ pub(crate) enum Case {
 }
 
 impl Types {
-    // How the pair is decided. A union on the left is taken apart before one on the right.
-    fn case(&self, pair: Pair) -> Case
+    /// How the pair is decided. A union on the left is taken apart before one on the right.
+    pub fn case(&self, pair: Pair) -> Case
         ensures { result ≡ case_of (forms_of self.now) pair }
     {
         match (self.form(pair.left), self.form(pair.right)) {
@@ -87,8 +87,8 @@ impl Types {
         }
     }
 
-    // The fields of a record, and none of another type.
-    fn fields(&self, number: usize) -> &[Field]
+    /// The fields of a record, and none of another type.
+    pub fn fields(&self, number: usize) -> &[Field]
         ensures { result.now ≡ fields_in (slice_get (forms_of self.now) number) }
     {
         match self.form(number) {
@@ -107,8 +107,8 @@ impl Types {
         }
     }
 
-    // How many questions the pair has.
-    fn asked_count(&self, pair: Pair) -> usize
+    /// How many questions the pair has.
+    pub fn asked_count(&self, pair: Pair) -> usize
         ensures { result ≡ length (pairs_of (forms_of self.now) pair) }
     {
         match self.case(pair) {
@@ -120,8 +120,8 @@ impl Types {
         }
     }
 
-    // The pair that is asked at a place, if there is one.
-    fn asked(&self, pair: Pair, place: usize) -> Option<Pair>
+    /// The pair that is asked at a place, if there is one.
+    pub fn asked(&self, pair: Pair, place: usize) -> Option<Pair>
         ensures { result ≡ slice_get (pairs_of (forms_of self.now) pair) place }
     {
         match self.case(pair) {

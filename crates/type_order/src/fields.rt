@@ -12,7 +12,7 @@ pub struct Field {
 }
 
 /// The type of the field with this name: that of the first one, if there are several.
-pub(crate) fn part_of(fields: &[Field], name: u32) -> Option<usize>
+pub fn part_of(fields: &[Field], name: u32) -> Option<usize>
     ensures { result ≡ part_of fields.now name }
 {
     for field in fields {

@@ -2,7 +2,6 @@
 use Rattle.std.proofs.Common.{◌≡◌, ℕ, zero, suc, ◌+◌, ◌<◌, List, [], ◌∷◌, ◌++◌, length, map, take, get_or, Some, refl, ap, sym, ◌∙◌, subst, arith}
 use Rattle.std.specs.Prelude.{Contains, slice_get}
 use Rattle.std.specs.List.{AllZip, filter_map}
-use Rattle.std.proofs.lemmas.List.{append-nil}
 use Rattle.std.proofs.lemmas.List.Elements.{filter_map-append}
 use Rattle.type_order.specs.declared.delegate.Pair.{Pair}
 use Rattle.type_order.specs.declared.types.Form.{Form}
@@ -12,7 +11,7 @@ use Rattle.type_texts.specs.declared.table.TypeTable.{TypeTable}
 use Rattle.type_texts.specs.declared.written.WrittenField.{WrittenField}
 use Rattle.type_texts.specs.Grammar.{Base, Bottom, Function, Meaning, NamedField, Record, Top, Union}
 use Rattle.type_texts.specs.Table.{meaning_in, question_in}
-use Rattle.type_texts.specs.Words.{Adds, forms_in, GrowsLabels, HasUndeclared, IsAsked, IsForm, IsNumberOf, IsSameField, IsTableOf, labels_of, named, names_of, questions_of, Statement}
+use Rattle.type_texts.specs.Words.{Adds, forms_in, GrowsLabels, HasUndeclared, IsAsked, IsForm, IsNumberOf, IsSameField, labels_of, named, names_of, questions_of, Statement}
 use Rattle.type_texts.proofs.Lists.{AllZip-append, AllZip-append_one, AllZip-weaker, contains_later, map_take_next}
 
 module _ (names old new : List (List ℕ)) (kept : (n : ℕ) (x : List ℕ) → slice_get old n ≡ Some x → slice_get new n ≡ Some x) where

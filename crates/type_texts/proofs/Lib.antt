@@ -7,3 +7,5 @@ pub mod Lines
 pub mod Spelling
 pub mod Refusing
 pub mod Short
+pub mod Failing
+pub mod Ruled

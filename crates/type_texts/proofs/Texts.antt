@@ -2,14 +2,17 @@
 use Rattle.std.proofs.Common.{◌≡◌, ℕ, zero, suc, ◌<◌, List, [], ◌∷◌, length, map, get_or, Some, refl, ap, sym, ◌∙◌, subst, arith}
 use Rattle.std.specs.Prelude.{Contains, slice_get}
 use Rattle.std.specs.List.{AllZip, filter_map}
+use Rattle.std.proofs.lemmas.List.{length-map}
 use Rattle.std.proofs.lemmas.Option.{slice_get_within}
+use Rattle.type_order.specs.Rule.{alternatives_in}
 use Rattle.type_order.specs.declared.fields.Field.{Field}
 use Rattle.type_order.specs.declared.types.Form.{Form}
 use Rattle.type_order.specs.declared.types.Form.TheVariants as types
 use Rattle.type_order.specs.Order.{AreDeclared, parts_of}
 use Rattle.type_texts.specs.Grammar.{Ask, Base, Bottom, Declare, Function, Meaning, NamedField, Nothing, Record, Top, Union}
 use Rattle.type_texts.specs.Table.{meaning_in}
-use Rattle.type_texts.specs.Words.{declared_by, forms_in, IsForm, IsNumberOf, IsSameField, IsTableOf, name_in, names_of, Statement, statement_of}
+use Rattle.type_texts.specs.Words.{declared_by, forms_in, IsForm, IsNumberOf, IsSameField, IsTableOf, IsUnionOfItself, names_of, Statement, statement_of, union_lists}
+use Rattle.type_texts.proofs.Unions.{step_within}
 use Rattle.type_texts.specs.declared.line.Line.{Line}
 use Rattle.type_texts.specs.declared.table.TypeTable.{TypeTable}
 
@@ -35,6 +38,16 @@ zip_long R (x ∷ xs) (y ∷ ys) h = ap suc (zip_long R xs ys h.1)
 -- each type has its name
 pub as_many_forms : (ss : List Statement) (table : TypeTable) → IsTableOf ss table → names_of table ≡ declared_by ss → length (names_of table) ≡ length (forms_in table)
 as_many_forms ss table is names = ap length names ∙ as_many ss ∙ sym (zip_long (IsForm (names_of table) table.words) (forms_in table) (filter_map meaning_in ss) is.forms)
+
+-- what is a union of itself is declared
+pub unguarded_is_declared : (ss : List Statement) (table : TypeTable) (n : ℕ) → IsTableOf ss table → IsUnionOfItself (forms_in table) n → n < length (declared_by ss)
+unguarded_is_declared ss table n is union =
+    let forms = forms_in table in
+    let within = step_within (union_lists forms) n union.part union.is_part in
+    let rows = length-map forms (λ form. alternatives_in (Some form)) in
+    let many = as_many ss in
+    let long = zip_long (IsForm (names_of table) table.words) forms (filter_map meaning_in ss) is.forms in
+    omega (arith, within, rows, many, long)
 
 module _ (names labels : List (List ℕ)) where
   number_within : (number : ℕ) (name : List ℕ) → IsNumberOf names number name → number < length names

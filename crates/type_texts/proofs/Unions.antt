@@ -1,6 +1,6 @@
 -- Unions as a graph of numbers.
-use Rattle.std.proofs.Common.{◌≡◌, ◌≢◌, ℕ, zero, suc, ◌+◌, ◌<◌, List, [], ◌∷◌, ◌++◌, All, length, map, take, get_or, Option, Some, None, refl, ap, sym, ◌∙◌, subst, arith}
-use Rattle.std.specs.Prelude.{Contains, slice_get, slice_index, slice_index_or}
+use Rattle.std.proofs.Common.{◌≡◌, ◌≢◌, ℕ, zero, suc, ◌+◌, ◌<◌, List, [], ◌∷◌, ◌++◌, All, length, take, get_or, Option, Some, None, refl, ap, sym, ◌∙◌, subst, arith}
+use Rattle.std.specs.Prelude.{Contains, slice_get, slice_index}
 use Rattle.std.specs.Global.{Vec}
 use Rattle.std.proofs.lemmas.List.{length-map, map-append, take_more}
 use Rattle.std.proofs.lemmas.List.Elements.{All-from_get_or, Contains-get_or}
@@ -25,7 +25,7 @@ rows_more forms n old new row so_far l is pushed =
     ap successor_lists pushed ∙ map-append (λ (successors : Vec ℕ). successors.items) old (row ∷ []) ∙ ap (λ xs. xs ++ row.items ∷ []) so_far ∙ ap (λ x. take n (union_lists forms) ++ x ∷ []) (is ∙ sym (union_at forms n))
     ∙ sym (take_more (union_lists forms) n [] (omega (arith, long, l)))
 
-step_within : (lists : List (List ℕ)) (a b : ℕ) → HasStep lists a b → a < length lists
+pub step_within : (lists : List (List ℕ)) (a b : ℕ) → HasStep lists a b → a < length lists
 step_within [] a b h = absurd (let l = h.1 in omega arith)
 step_within (x ∷ xs) zero b h = omega arith
 step_within (x ∷ xs) (suc a) b h = let l = step_within xs a b h in omega (arith, l)

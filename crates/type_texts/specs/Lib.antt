@@ -5,4 +5,5 @@ pub mod Short
 pub mod Table
 pub mod Text
 pub mod Faults
+pub mod Reasons
 pub mod Words

@@ -1,5 +1,5 @@
 -- What a whole text says.
-use Rattle.std.specs.Prelude.{◌≡◌, ℕ, ◌+◌, List, take, All, Some, slice_get}
+use Rattle.std.specs.Prelude.{◌≡◌, ℕ, ◌+◌, List, take, All, Some, length, slice_get}
 use Rattle.std.specs.List.{AllZip, filter_map}
 use Rattle.type_order.specs.Order.{AreDeclared, IsContractive}
 use Rattle.type_texts.specs.declared.table.TypeTable.{TypeTable}
@@ -59,11 +59,22 @@ IsDeclaredTwice text number = (statements : List Statement) × AllZip Says (line
 abbrev pub IsUndeclared : List ℕ → ℕ → Type 0
 IsUndeclared text number = (statements : List Statement) × AllZip Says (lines_of text) statements × NamesUndeclared (declared_by statements) statements number
 
--- a type of the text is a union of itself through unions alone
-pub record IsUnguarded (text : List ℕ) : Type 0 where
+-- the line declares the type of this number
+pub record DeclaresType (statements : List Statement) (type line : ℕ) : Type 0 where
+  pub before : ℕ
+  pub count : line ≡ before + 1
+  pub statement : Statement
+  pub is_at : slice_get statements before ≡ Some statement
+  pub name : List ℕ
+  pub declares : name_in statement ≡ Some name
+  pub is_type : type ≡ length (declared_by (take before statements))
+
+-- this line of the text declares a type that is a union of itself through unions alone
+pub record IsUnguarded (text : List ℕ) (line : ℕ) : Type 0 where
   pub statements : List Statement
   pub lines : AllZip Says (lines_of text) statements
   pub table : TypeTable
   pub is_table : IsTableOf statements table
-  pub number : ℕ
-  pub is_union : IsUnionOfItself (forms_in table) number
+  pub type : ℕ
+  pub is_declared : DeclaresType statements type line
+  pub is_union : IsUnionOfItself (forms_in table) type

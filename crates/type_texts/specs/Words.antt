@@ -7,4 +7,4 @@ pub use Rattle.type_texts.specs.Guard.{AreComponents, HasStep, IsUnionOfItself, 
 pub use Rattle.type_texts.specs.Line.{meaning_of, named, statement_of}
 pub use Rattle.type_texts.specs.Short.{HasShortName, HasShortParts, HasShortWords}
 pub use Rattle.type_texts.specs.Table.{Adds, forms_in, GrowsLabels, HasUndeclared, IsAsked, IsForm, IsNumberOf, IsSameField, IsTableOf, labels_of, name_in, named_in, names_of, parts_in, questions_of}
-pub use Rattle.type_texts.specs.Text.{declared_by, DeclaresAgain, IsDeclaredTwice, IsFirstBadLine, IsUndeclared, IsUnguarded, Reads}
+pub use Rattle.type_texts.specs.Text.{declared_by, DeclaresAgain, DeclaresType, IsDeclaredTwice, IsFirstBadLine, IsUndeclared, IsUnguarded, Reads}

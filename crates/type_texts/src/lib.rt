@@ -8,6 +8,7 @@
 //! | `Guard` | unions that lead back to themselves through unions alone |
 //! | `Table` | the table that a text makes |
 //! | `Faults` | why a part of the reading failed |
+//! | `Reasons` | what a reason of a no is, and its words |
 #![tactic(auto)]
 
 mod entering;

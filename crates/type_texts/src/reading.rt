@@ -1,8 +1,8 @@
 //! Reading a text.
-ghost use Rattle.std.specs.Prelude.{◌≡◌, ℕ, All, IfOk, IfErr, map};
+ghost use Rattle.std.specs.Prelude.{◌≡◌, ◌<◌, ℕ, All, length, IfOk, IfErr, map};
 ghost use Rattle.std.specs.List.{AllZip};
 ghost use Rattle.std.specs.Option.{option_copied};
-ghost use Rattle.type_texts.specs.Words.{AreDistinct, declared_by, HasShortWords, IsDeclaredTwice, IsFirstBadLine, IsTableOf, IsUndeclared, IsUnguarded, lines_of, name_in, names_of, Reads, Says, statement_of};
+ghost use Rattle.type_texts.specs.Words.{AreDistinct, declared_by, DeclaresType, HasShortWords, IsDeclaredTwice, IsFirstBadLine, IsTableOf, IsUndeclared, IsUnguarded, lines_of, name_in, names_of, Reads, Says, statement_of};
 ghost use Rattle.type_texts.specs.Faults.{IsOfLines, IsOfNames, IsOfTable};
 
 use crate::entering::EntryFault;
@@ -88,7 +88,8 @@ impl TypeTable {
         ensures twice { (n : ℕ) → result ≡ Err (ReadFault.Twice n) → IsDeclaredTwice text.now n }
         ensures undeclared { (n : ℕ) → result ≡ Err (ReadFault.Undeclared n) →
             IsUndeclared text.now n }
-        ensures unguarded { (n : ℕ) → result ≡ Err (ReadFault.Unguarded n) → IsUnguarded text.now }
+        ensures unguarded { (n : ℕ) → result ≡ Err (ReadFault.Unguarded n) →
+            IsUnguarded text.now n }
     {
         let lines = lines_in(alloc, text)?;
         let names = names_in(alloc, lines.as_slice())?;
@@ -165,7 +166,10 @@ fn table_of(alloc: Global, names: Names, lines: &[Line<'_>]) -> Result<TypeTable
 }
 
 // The number of the line that declares the type of this number.
-fn line_declaring(lines: &[Line<'_>], number: usize) -> usize {
+fn line_declaring(lines: &[Line<'_>], number: usize) -> usize
+    requires { number < length (declared_by (map statement_of lines.now)) }
+    ensures { DeclaresType (map statement_of lines.now) number result }
+{
     let mut declared = 0;
     for (before, line) in lines.iter().enumerate() {
         if let Line::Type { .. } = line {

@@ -1,17 +1,26 @@
 //! The words of a reason why a type is not below another: the way from the pair to one that fails by itself, and how that
 //! fails.
+ghost use Rattle.std.specs.Prelude.{◌≡◌, ◌++◌, ℕ, true, None, Some, OnOk, slice_get};
+ghost use Rattle.std.specs.Option.{option_copied};
+ghost use Rattle.type_order.specs.Fields.{has_all, part_of};
+ghost use Rattle.type_order.specs.Rule.{NeedsAll, case_of, pairs_of};
+ghost use Rattle.type_order.specs.Subtypes.{IsBelow, forms_of};
+ghost use Rattle.type_texts.specs.Reasons.{Fails, IsStep, ReasonsShowIt, end_words, failure_words, missed_word, record_in, step_name, way_words};
 
 use crate::table::TypeTable;
 use search_context::context::NoMemory;
-use type_order::{Field, Form, Pair, Types};
+use type_order::{Case, Field, Form, Pair, Types, part_of};
 
 /// A step from a pair to one of its parts.
 #[derive(Clone, Copy)]
 pub enum Step {
     /// To an alternative of the left type, which leaves no trace in the text.
     Alternative,
+    /// To the arguments of two functions, which stand the other way round.
     Argument,
+    /// To their results.
     Result,
+    /// To the fields of this name of two records.
     Field(u32),
 }
 
@@ -26,12 +35,19 @@ pub enum End {
     Lacks(u32),
 }
 
-/// Writes the steps, the first of which stands last: ` at tail.head: `, or `: ` where none has a name.
-pub fn write_way(text: &mut Vec<u8>, table: &TypeTable, way: &[Step]) -> Result<(), NoMemory> {
+/// That a reason is one: where steps lead from a pair to one that fails as is told, the pair's left type is not below its
+/// right one. This call does nothing when it runs; what it promises is a law, for a caller's proof.
+pub fn reasons_show_it()
+    ensures { ReasonsShowIt }
+{}
+
+/// Writes the steps: ` at tail.head: `, or `: ` where none has a name.
+pub fn write_way(text: &mut Vec<u8>, table: &TypeTable, way: &[Step]) -> Result<(), NoMemory>
+    ensures { OnOk result (text.new.items ≡ text.old.items ++ way_words table.now way.now) }
+{
     let mut before: &[u8] = b" at ";
-    for step in way.iter().rev() {
-        let name = name_of(table, *step);
-        if !name.is_empty() {
+    for step in way {
+        if let Some(name) = name_of(table, *step) {
             text.extend_from_slice(before)?;
             text.extend_from_slice(name)?;
             before = b".";
@@ -42,12 +58,14 @@ pub fn write_way(text: &mut Vec<u8>, table: &TypeTable, way: &[Step]) -> Result<
 }
 
 // The name of a step; that to an alternative has none.
-fn name_of(table: &TypeTable, step: Step) -> &[u8] {
+fn name_of(table: &TypeTable, step: Step) -> Option<&[u8]>
+    ensures { option_copied result ≡ step_name table.now step }
+{
     match step {
-        Step::Alternative => b"",
-        Step::Argument => b"argument",
-        Step::Result => b"result",
-        Step::Field(name) => table.label(name).unwrap_or(b""),
+        Step::Alternative => None,
+        Step::Argument => Some(b"argument".as_slice()),
+        Step::Result => Some(b"result".as_slice()),
+        Step::Field(name) => table.label(name),
     }
 }
 
@@ -57,34 +75,82 @@ pub fn write_end(
     table: &TypeTable,
     pair: Pair,
     end: End,
-) -> Result<(), NoMemory> {
-    let right = table.name(pair.right).unwrap_or(b"");
+) -> Result<(), NoMemory>
+    ensures { OnOk result (text.new.items ≡ text.old.items ++ end_words table.now pair end) }
+{
     text.extend_from_slice(table.name(pair.left).unwrap_or(b""))?;
-    let (words, last): (&[u8], &[u8]) = match end {
-        End::Apart => (b" is not below ", right),
-        End::NoAlternative => (b" fits no alternative of ", right),
-        End::Lacks(name) => (b" has no ", table.label(name).unwrap_or(b"")),
-    };
-    text.extend_from_slice(words)?;
-    text.extend_from_slice(last)?;
+    text.extend_from_slice(failure_of(end))?;
+    text.extend_from_slice(missed_in(table, pair, end))?;
     Ok(())
 }
 
-/// How the pair fails by itself, if it does so whatever its parts are, or if its right type is a union.
-pub fn end_of(types: &Types, pair: Pair) -> Option<End> {
-    match (types.form(pair.left), types.form(pair.right)) {
-        (Some(Form::Union(_)), _) => None,
-        (_, Some(Form::Union(_))) => Some(End::NoAlternative),
-        (Some(Form::Function(_, _)), Some(Form::Function(_, _))) => None,
-        (Some(Form::Record(fields)), Some(Form::Record(others))) => {
-            first_lack(fields.as_slice(), others.as_slice()).map(End::Lacks)
-        }
-        _ => Some(End::Apart),
+// How a pair fails.
+fn failure_of(end: End) -> &'static [u8]
+    ensures { result.now ≡ failure_words end }
+{
+    match end {
+        End::Apart => b" is not below ",
+        End::NoAlternative => b" fits no alternative of ",
+        End::Lacks(_) => b" has no ",
+    }
+}
+
+// The name of what it fails to fit, or lacks.
+fn missed_in(table: &TypeTable, pair: Pair, end: End) -> &[u8]
+    ensures { result.now ≡ missed_word table.now pair end }
+{
+    match end {
+        End::Apart | End::NoAlternative => table.name(pair.right).unwrap_or(b""),
+        End::Lacks(name) => table.label(name).unwrap_or(b""),
+    }
+}
+
+/// How the pair, whose left type is not below the right one, fails by itself: whatever its parts are, or as its right type
+/// is a union of which no alternative fits. Else all that is asked for the pair is needed, and so some of it fails.
+pub fn end_of(types: &Types, pair: Pair) -> Option<End>
+    ensures some { (end : End) → result ≡ Some end →
+        (IsBelow (forms_of types.now) pair.left pair.right → ⊥) →
+        Fails (forms_of types.now) end pair }
+    ensures none { result ≡ None → NeedsAll (forms_of types.now) pair }
+{
+    match types.case(pair) {
+        Case::Fails => match lack(types, pair) {
+            Some(name) => Some(End::Lacks(name)),
+            None => Some(End::Apart),
+        },
+        Case::SplitsRight => Some(End::NoAlternative),
+        Case::Holds | Case::SplitsLeft | Case::BetweenFunctions | Case::BetweenRecords => None,
+    }
+}
+
+// The first field of the right record that the left one lacks, where both types are records.
+fn lack(types: &Types, pair: Pair) -> Option<u32>
+    ensures some { (name : ℕ) → result ≡ Some name →
+        Fails (forms_of types.now) (End.Lacks name) pair }
+    ensures none { result ≡ None → case_of (forms_of types.now) pair ≡ Case.Fails →
+        Fails (forms_of types.now) End.Apart pair }
+{
+    let fields = record(types, pair.left)?;
+    let others = record(types, pair.right)?;
+    first_lack(fields, others)
+}
+
+// The fields, if the type is a record.
+fn record(types: &Types, number: usize) -> Option<&[Field]>
+    ensures { option_copied result ≡ record_in (slice_get (forms_of types.now) number) }
+{
+    match types.form(number) {
+        Some(Form::Record(fields)) => Some(fields.as_slice()),
+        _ => None,
     }
 }
 
 // The first of the other fields that is none of these.
-fn first_lack(fields: &[Field], others: &[Field]) -> Option<u32> {
+fn first_lack(fields: &[Field], others: &[Field]) -> Option<u32>
+    ensures some { (name : ℕ) → result ≡ Some name →
+        (part_of fields.now name ≡ None) × (y : ℕ) × (part_of others.now name ≡ Some y) }
+    ensures none { result ≡ None → has_all fields.now others.now ≡ true }
+{
     for other in others {
         if part_of(fields, other.name).is_none() {
             return Some(other.name);
@@ -93,12 +159,26 @@ fn first_lack(fields: &[Field], others: &[Field]) -> Option<u32> {
     None
 }
 
-/// The type of the field of this name.
-pub fn part_of(fields: &[Field], name: u32) -> Option<usize> {
-    for field in fields {
-        if field.name == name {
-            return Some(field.part);
-        }
+/// The step from the pair to the one that is asked for it at this place, where all that is asked is needed.
+pub fn step_at(types: &Types, pair: Pair, place: usize) -> Step
+    ensures { (part : Pair) → NeedsAll (forms_of types.now) pair →
+        slice_get (pairs_of (forms_of types.now) pair) place ≡ Some part →
+        IsStep (forms_of types.now) result pair part }
+{
+    match types.case(pair) {
+        Case::BetweenFunctions if place == 0 => Step::Argument,
+        Case::BetweenFunctions => Step::Result,
+        Case::BetweenRecords => Step::Field(name_at(types.fields(pair.right), place)),
+        _ => Step::Alternative,
     }
-    None
+}
+
+// The name of the field at this place.
+fn name_at(fields: &[Field], place: usize) -> u32
+    ensures { (field : Field) → slice_get fields.now place ≡ Some field → result ≡ field.name }
+{
+    match fields.get(place) {
+        Some(field) => field.name,
+        None => 0,
+    }
 }

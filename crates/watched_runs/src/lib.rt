@@ -4,6 +4,7 @@
 //! | File of `specs/` | Has |
 //! |---|---|
 //! | `Watch` | what a watcher stands beside |
+//! | `Reasons` | why a question was answered neither yes nor no |
 #![tactic(auto)]
 
 mod progress;

@@ -29,6 +29,21 @@ pub enum Cause {
     Known,
 }
 
+impl Cause {
+    ghost use Rattle.watched_runs.specs.Reasons.{is_limit};
+
+    // Whether it is a limit that the same call met.
+    fn is_limit(self) -> bool
+        ensures { result ≡ is_limit self }
+    {
+        match self {
+            Cause::Depth { or_runs } => !or_runs,
+            Cause::Runs => true,
+            Cause::Cycle(_) | Cause::Known => false,
+        }
+    }
+}
+
 /// A question that was answered neither yes nor no, without a question below it that was.
 #[derive(Clone, Copy)]
 pub struct Cut {
@@ -48,6 +63,8 @@ pub enum Reason {
     Runs,
     /// It was worked out before.
     Known,
+    /// None was noted. No search over a table comes to that.
+    Unnoted,
 }
 
 // A goal under evaluation, and the kind of the step by which it was asked.
@@ -75,11 +92,11 @@ pub struct Watcher<P> {
     last: Option<Cut>,
     /// Some goal had its most runs.
     had_most_runs: bool,
-    /// How many frames had started before this question.
-    before: u64,
 }
 
 impl<P: Progress> Watcher<P> {
+    ghost use Rattle.delegate_parts.specs.Builder.{started_in};
+    ghost use Rattle.watched_runs.specs.Reasons.{IsReason, was_run};
     ghost use Rattle.watched_runs.specs.Watch.{inner_of};
 
     /// A watcher that has seen nothing.
@@ -92,7 +109,6 @@ impl<P: Progress> Watcher<P> {
             next: PathKind::Inductive,
             last: None,
             had_most_runs: false,
-            before: 0,
         }
     }
 
@@ -103,21 +119,31 @@ impl<P: Progress> Watcher<P> {
         self.open.clear();
         self.next = PathKind::Inductive;
         self.last = None;
-        self.before = self.inner.started();
     }
 
-    /// Why the question came to this outcome, which is neither yes nor no.
-    pub fn reason(&mut self, outcome: Outcome) -> Reason {
-        if self.inner.started() == self.before {
+    /// How many frames were started, for all questions.
+    pub fn started(&self) -> u64
+        ensures { result ≡ started_in (inner_of self.now) }
+    {
+        self.inner.started()
+    }
+
+    /// Why the question came to this outcome, if that is neither yes nor no. So many frames had started before it, and its call
+    /// met a limit or not.
+    pub fn reason(&mut self, outcome: Outcome, before: u64, is_limited: bool) -> Reason
+        ensures reason { IsReason (was_run before (inner_of self.old)) is_limited outcome result }
+        ensures same { inner_of self.new ≡ inner_of self.old }
+    {
+        if self.inner.started() == before {
             return Reason::Known;
         }
         match (outcome, self.last) {
-            (Outcome::Overflow, _) => {
+            (Outcome::Overflow, _) if is_limited => {
                 self.had_most_runs = true;
                 Reason::Runs
             }
-            (_, Some(cut)) => Reason::Cut(cut),
-            (_, None) => Reason::Known,
+            (Outcome::Maybe, Some(cut)) if is_limited || !cut.cause.is_limit() => Reason::Cut(cut),
+            _ => Reason::Unnoted,
         }
     }
 

@@ -10,7 +10,7 @@ use run_records::spare::SpareMemory;
 use search_context::context::{Cx, NoMemory, Request};
 use search_stack::depth::StackDepth;
 
-impl<X: Cx, F: Drop, S: Drop> OpenGoals<X, F, S> {
+impl<X: Cx, F: Drop> OpenGoals<X, F> {
     /// Does what the newest goal's frame requested of its candidates; other requests change nothing. After a
     /// refusal the goals may only be cleared.
     pub fn note_candidate(

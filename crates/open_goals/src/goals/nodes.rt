@@ -9,7 +9,7 @@ use search_context::context::{Cx, NoMemory, NodeId};
 use search_stack::depth::StackDepth;
 use search_stack::stack::Stack;
 
-impl<X: Cx, F: Drop, S: Drop> OpenGoals<X, F, S> {
+impl<X: Cx, F: Drop> OpenGoals<X, F> {
     /// Appends the nodes that the goals lead to: those of their runs, those to which the answers of their cycles
     /// lead, and those of their runs' definite answers, also in ignored candidates. A refusal may leave a part of
     /// them appended.

@@ -1,7 +1,6 @@
 -- What follows of the end of a run: where the call goes on or stops, that all stays right, and what is kept.
 use Rattle.std.proofs.Common.{◌≡◌, ◌<◌, ◌≤◌, ◌+◌, ◌∷◌, ℕ, Bool, max, true, List, Option, None, Some, Result, Ok, Err, IfOk, IfErr, refl, sym, ap, subst}
 use Rattle.between_moves.proofs.Keeping.{leaves_results}
-use Rattle.global_cache.proofs.Stores.{KeepsResults-same}
 use Rattle.goal_changes.specs.Entries.{is_in_cycle}
 use Rattle.search_context.specs.Delegate.{IsNeither}
 use Rattle.search_ends.proofs.moves.Said.{done_keeps, end_leaves, limited_keeps_answers, rerun_keeps}
@@ -23,8 +22,7 @@ rerun_noted :
     {D C V P F I R A T : Type 0} {G : DelegateOf D C V P F I R A T} (same : I → I → Bool) {old new : Cache C I R A T} {before after : Evaluation D C V P F I R A T} {starts later : ℕ}
     → RerunKeeps G old before starts new after later → KeepsNoted same old before.drafts new after.drafts
 rerun_noted {C = C} {I = I} {R = R} {A = A} {T = T} same {old} {new} {before} {after} keeps =
-    let same_results = ap (λ (cache : Cache C I R A T). cache.results) keeps.cache in
-    noted_same same old new before.drafts after.drafts (ap (λ a. a.drafts) keeps.rest) keeps.kept same_results (KeepsResults-same same old.results new.results same_results)
+    noted_same same old new before.drafts after.drafts (ap (λ a. a.drafts) keeps.rest) (ap (λ (cache : Cache C I R A T). cache.results) keeps.cache)
 
 module _ {D C V P F I R A T : Type 0} {G : DelegateOf D C V P F I R A T} {X : CxOf C I R A T} {same : I → I → Bool} {same_result : R → R → Bool} {outcome : R} {old : Cache C I R A T} {before : Evaluation D C V P F I R A T} {starts : ℕ} where
   -- ---- where the end leads
@@ -60,8 +58,8 @@ module _ {D C V P F I R A T : Type 0} {G : DelegateOf D C V P F I R A T} {X : Cx
   pub ended_stores :
       {result : Result (Next R) (Fault I R)} {new : Cache C I R A T} {after : Evaluation D C V P F I R A T} {later : ℕ} → RunEnds G X same same_result outcome old before starts result new after later
       → StoresOrFails G X same old before.drafts result new after.drafts
-  ended_stores (EndedDone entry run reason result new after comes pop) = record { noted = pop.noted; fails = stopped_by result _ _ (λ fault fails. fails.stores) pop.fails }
-  ended_stores (EndedAtLimit entry run result new after comes pop) = record { noted = pop.noted; fails = stopped_by result _ _ (λ fault fails. fails.stores) pop.fails }
+  ended_stores (EndedDone entry run reason result new after comes pop) = record { noted = pop.noted.keeps; fails = stopped_by result _ _ (λ fault fails. fails.stores) pop.fails }
+  ended_stores (EndedAtLimit entry run result new after comes pop) = record { noted = pop.noted.keeps; fails = stopped_by result _ _ (λ fault fails. fails.stores) pop.fails }
   ended_stores (RanAgain entry run new after later comes keeps reran counted) = record { noted = rerun_noted same keeps; fails = tt }
   ended_stores (NotRunAgain entry run new after later comes keeps) = record {
     noted = rerun_noted same keeps;

@@ -1,11 +1,10 @@
 -- What follows of an evaluation, whether a stored result answers the goal or it is worked out.
-use Rattle.std.proofs.Common.{◌≡◌, ◌∙◌, ℕ, Bool, true, false, length, Option, None, Result, Ok, Some, ap, ap₂, refl, sym, subst}
+use Rattle.std.proofs.Common.{◌≡◌, ◌∙◌, ℕ, Bool, true, false, Option, None, Result, Ok, Some, ap, ap₂, refl, sym, subst}
 use Rattle.std.specs.Option.{IfSome, IsSomeAnd}
 use Rattle.between_moves.proofs.Keeping.{cache_stays}
 use Rattle.run_records.specs.declared.runs.Fate.TheVariants as becomes
 use Rattle.search_context.specs.declared.context.Answer.{Answer}
 use Rattle.search_graph.proofs.ran.Calls.{works_out}
-use Rattle.search_graph.proofs.turns.Turns.{leaves_nothing}
 use Rattle.search_graph.specs.Below.{AreRuns, AreSoundResults, Cache, CxOf, DelegateOf, Fault, HasGraph, Hit, IsRemembered, KeepsCache, PathKind, Place, stored_at, verdicts}
 use Rattle.search_graph.specs.Called.{Evaluated, found_in, WasStored, WasWorkedOut}
 use Rattle.search_graph.specs.Calls.{Evaluates, IsGrounded, IsOfFate, IsOfStored}
@@ -81,14 +80,12 @@ module _ {D C V P F I R A T : Type 0} {G : DelegateOf D C V P F I R A T} {X : Cx
   -- the answer has its graph, or the fault its cause
   pub evaluated_is_grounded :
       {result : Result (Answer R) (Fault I R)} {new : Cache C I R A T} {after : Evaluation D C V P F I R A T} {later : ℕ} → Evaluated G X same same_result noop looks_up kind goal old e starts result new after later
-      → IsGrounded G X same goal (length old.nodes) new result
+      → IsGrounded G X same goal new result
   evaluated_is_grounded (WasStored hit found usable) = record {
     has_graph =
         subst (λ r. HasGraph (verdicts X) old.nodes goal r hit.node) usable.result_is
         (subst (HasGraph (verdicts X) old.nodes goal usable.stored.result.result) usable.node_is (sound goal usable.place usable.stored usable.is_stored).graph);
-    leaves = leaves_nothing same old hit.node;
     caused = tt;
-    left = tt;
   }
   evaluated_is_grounded (WasWorkedOut result new after later none fated ran) = (works_out laws outset are_runs sound fated result ran).grounded
 

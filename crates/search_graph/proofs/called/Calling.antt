@@ -1,5 +1,5 @@
 -- What a call comes to, whatever is known of it; and what it keeps.
-use Rattle.std.proofs.Common.{◌≡◌, Bool, true, false, length, None, Result, Ok, Err, IfOk, IfErr, IfSome, refl}
+use Rattle.std.proofs.Common.{◌≡◌, Bool, true, false, None, Result, Ok, Err, IfOk, IfErr, IfSome, refl}
 use Rattle.graph_nodes.proofs.Definites.{definite_is_whole}
 use Rattle.search_context.specs.declared.context.Answer.{Answer}
 use Rattle.search_graph.proofs.called.Answering.{evaluated_evaluates, evaluated_is_grounded, evaluated_keeps}
@@ -37,7 +37,7 @@ module _ {D C V P F I R A T : Type 0} {G : DelegateOf D C V P F I R A T} {X : Cx
   pub run_evaluates : Evaluates G X same call.before.cache.cx IsToStore IsExpectedOf call.goal call.before.cache (begun G X same same_result call.before.graph ran.drafts) call.before.starts call.result call.after.cache left_by call.after.starts
   run_evaluates = evaluated_evaluates ran.laws ran.at_outset ran.was_sound.runs ran.was_sound.results ran.evaluated
 
-  pub run_is_grounded : IsGrounded G X same call.goal (length call.before.cache.nodes) call.after.cache call.result
+  pub run_is_grounded : IsGrounded G X same call.goal call.after.cache call.result
   run_is_grounded = evaluated_is_grounded ran.laws ran.at_outset ran.was_sound.runs ran.was_sound.results ran.evaluated
 
   pub run_keeps : KeepsAll same call.before.cache call.after.cache

@@ -12,7 +12,7 @@ if_ok_all : {A E : Type 0} (result : Result A E) {P Q S B : A → Type 0} → If
 if_ok_all (Ok answer) p q s from = from answer p q s
 if_ok_all (Err fault) p q s from = tt
 
-if_err_both : {A E : Type 0} (result : Result A E) {P Q B : E → Type 0} → IfErr result P → IfErr result Q → ((fault : E) → P fault → Q fault → B fault) → IfErr result B
+pub if_err_both : {A E : Type 0} (result : Result A E) {P Q B : E → Type 0} → IfErr result P → IfErr result Q → ((fault : E) → P fault → Q fault → B fault) → IfErr result B
 if_err_both (Ok answer) p q from = tt
 if_err_both (Err fault) p q from = from fault p q
 

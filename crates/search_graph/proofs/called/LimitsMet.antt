@@ -15,19 +15,12 @@ use Rattle.search_graph.specs.Laws.{AreLaws}
 use Rattle.search_graph.specs.LimitsMet.{limits_met_in, met_at_end, met_by_move, met_by_turn, met_in_evaluation, met_in_turns}
 use Rattle.search_graph.specs.Ran.{Advanced, Answered, Asked, Began, Failed, FailedForGood, FrameFailed, GoesOn, NotAnswered, NotAsked, NotBegun, Noted, NotNoted, Ran, RunEnded, Then, Turned}
 use Rattle.search_graph.specs.Turns.{IsAtOutset}
+use Rattle.search_questions.proofs.moves.Limits.{met_or, met_so}
 use Rattle.search_questions.specs.Words.{question_depth}
 use Rattle.search_rules.proofs.moves.Questions.{enclosed_refuses_none}
 use Rattle.search_state.specs.declared.evaluation.Evaluation.{Evaluation}
 
 -- ---- the flag says whether one of the two was met
-
-met_or : (met : Bool) → (met || false) ≡ met
-met_or true = refl
-met_or false = refl
-
-met_so : (met : Bool) → (met || true) ≡ true
-met_so true = refl
-met_so false = refl
 
 -- one limit or another, after those that were met
 either_of : (was refused most refused_now most_now : Bool) → ((was || (refused || most)) || (refused_now || most_now)) ≡ (was || ((refused || refused_now) || (most || most_now)))
@@ -51,7 +44,7 @@ module _ {D C V P F I R A T : Type 0} {G : DelegateOf D C V P F I R A T} {X : Cx
         → (advanced : Advanced G X same same_result noop received old e starts result new after later) → after.limits_met ≡ (e.limits_met || ((met_by_move advanced).refused || (met_by_move advanced).most_runs))
     move_tells {e = e} (FrameFailed fault goals failed) = sym (met_or e.limits_met)
     move_tells {e = e} (Asked kind goal goals given new after later stepped asking asks) = asks.meets ∙ ap (λ b. e.limits_met || b) (sym (met_or (is_none (question_depth G (record e { goals = goals })))))
-    move_tells {e = e} (NotAsked kind goal goals new after later stepped stops asks) = asks.meets ∙ ap (λ b. e.limits_met || b) (sym (met_or (is_none (question_depth G (record e { goals = goals })))))
+    move_tells {e = e} (NotAsked kind goal goals new after later stepped fails asks) = asks.meets ∙ ap (λ b. e.limits_met || b) (sym (met_or (is_none (question_depth G (record e { goals = goals })))))
     move_tells (RunEnded outcome goals result new after later stepped runs ends) = end_tells ends
     move_tells {e = e} (Noted request goals noted stepped about notes) = sym (met_or e.limits_met)
     move_tells {e = e} (NotNoted request goals left stepped) = sym (met_or e.limits_met)
@@ -66,8 +59,8 @@ module _ {D C V P F I R A T : Type 0} {G : DelegateOf D C V P F I R A T} {X : Cx
 
     ran_tells : {kind : PathKind} {goal : I} {fate : Fate R} {old : Cache C I R A T} {e : Evaluation D C V P F I R A T} {starts : ℕ} {result : Result (Next R) (Fault I R)} {new : Cache C I R A T} {after : Evaluation D C V P F I R A T} {later : ℕ}
         → (ran : Ran G X same same_result noop kind goal fate old e starts result new after later) → after.limits_met ≡ (e.limits_met || ((met_in_turns ran).refused || (met_in_turns ran).most_runs))
-    ran_tells {e = e} (Began goals nodes later pushes fates nodes_kept one counted) = sym (met_or e.limits_met)
-    ran_tells {e = e} (NotBegun goals later least one) = sym (met_or e.limits_met)
+    ran_tells {e = e} (Began goals held nodes later pushes fates holds nodes_kept one counted) = sym (met_or e.limits_met)
+    ran_tells {e = e} (NotBegun goals held later least one) = sym (met_or e.limits_met)
     ran_tells {e = e} (Then given mid between now result new after later ran turned) =
         turn_tells turned
         ∙ (ap (λ b. b || ((met_by_turn turned).refused || (met_by_turn turned).most_runs)) (ran_tells ran)
@@ -97,7 +90,7 @@ module _ {D C V P F I R A T : Type 0} {G : DelegateOf D C V P F I R A T} {X : Cx
     move_refuses_none : {result : Result (Next R) (Fault I R)} {new : Cache C I R A T} {after : Evaluation D C V P F I R A T} {later : ℕ} (advanced : Advanced G X same same_result noop received old e starts result new after later) → (met_by_move advanced).refused ≡ false
     move_refuses_none (FrameFailed fault goals failed) = refl
     move_refuses_none (Asked kind goal goals given new after later stepped asking asks) = has_depth right call awaits enclosed kind goal goals stepped (question_depth G (record e { goals = goals })) refl
-    move_refuses_none (NotAsked kind goal goals new after later stepped stops asks) = has_depth right call awaits enclosed kind goal goals stepped (question_depth G (record e { goals = goals })) refl
+    move_refuses_none (NotAsked kind goal goals new after later stepped fails asks) = has_depth right call awaits enclosed kind goal goals stepped (question_depth G (record e { goals = goals })) refl
     move_refuses_none (RunEnded outcome goals result new after later stepped runs ends) = end_refuses_none ends
     move_refuses_none (Noted request goals noted stepped about notes) = refl
     move_refuses_none (NotNoted request goals left stepped) = refl
@@ -121,8 +114,8 @@ module _ {D C V P F I R A T : Type 0} {G : DelegateOf D C V P F I R A T} {X : Cx
       (outset : IsAtOutset old e) (are_runs : AreRuns (verdicts X) (G.script old.cx) old.nodes) (sound : AreSoundResults same (verdicts X) (G.script old.cx) old.nodes old.results)
       (call : Call I) (at : Begins G X old.cx same call goal e.root_depth.0 starts e.limits_met old.results) (enclosed : CallIsEnclosed G X old.cx call) where
     ran_refuses_none : {fate : Fate R} {result : Result (Next R) (Fault I R)} {new : Cache C I R A T} {after : Evaluation D C V P F I R A T} {later : ℕ} (ran : Ran G X same same_result noop kind goal fate old e starts result new after later) → (met_in_turns ran).refused ≡ false
-    ran_refuses_none (Began goals nodes later pushes fates nodes_kept one counted) = refl
-    ran_refuses_none (NotBegun goals later least one) = refl
+    ran_refuses_none (Began goals held nodes later pushes fates holds nodes_kept one counted) = refl
+    ran_refuses_none (NotBegun goals held later least one) = refl
     ran_refuses_none (Then given mid between now result new after later ran turned) =
         ap (λ b. b || (met_by_turn turned).refused) (ran_refuses_none ran)
         ∙ refuses_none_over (ran_keeps laws outset are_runs sound ran).context call turned (ran_right laws outset are_runs sound ran) (ran_waits laws outset are_runs sound call at ran) enclosed

@@ -51,7 +51,7 @@ module _ {D C V P F I R A T : Type 0} {G : DelegateOf D C V P F I R A T} {X : Cx
   question_counts {starts = starts} (ByEntry depth entry goals has_depth found answers nests) = le_refl starts
   question_counts {starts = starts} (ByStored depth hit goals has_depth none found takes usable) = le_refl starts
   question_counts {starts = starts} (OverCycle depth head received goals has_depth none unstored there closes) = le_refl starts
-  question_counts {starts = starts} (Pushed depth goals nodes later has_depth none unstored off pushes fates fated one counted) = counts_up G.last starts later (counted counts)
+  question_counts {starts = starts} (Pushed depth goals held nodes later has_depth none unstored off pushes fates holds fated one counted) = counts_up G.last starts later (counted counts)
 
 module _ {D C V P F I R A T : Type 0} {G : DelegateOf D C V P F I R A T} {X : CxOf C I R A T} {same : I → I → Bool} {same_result : R → R → Bool} {noop : Bool} (counts : G.counts ≡ true) where
   -- a move that does not fail starts frames, and takes none back
@@ -59,7 +59,7 @@ module _ {D C V P F I R A T : Type 0} {G : DelegateOf D C V P F I R A T} {X : Cx
       → Advanced G X same same_result noop received old e starts result new after later → IfOk result (λ next. starts ≤ later)
   move_counts (FrameFailed fault goals failed) = tt
   move_counts (Asked kind goal goals given new after later stepped asking asks) = question_counts counts asking
-  move_counts (NotAsked kind goal goals new after later stepped stops asks) = tt
+  move_counts (NotAsked kind goal goals new after later stepped fails asks) = tt
   move_counts (RunEnded outcome goals result new after later stepped runs ends) = if_ok result (end_counts counts ends)
     where
       if_ok : {P : Type 0} (r : Result (Next R) (Fault I R)) → P → IfOk r (λ next. P)
@@ -78,8 +78,8 @@ module _ {D C V P F I R A T : Type 0} {G : DelegateOf D C V P F I R A T} {X : Cx
 
   ran_counts : {kind : PathKind} {goal : I} {fate : Fate R} {old : Cache C I R A T} {e : Evaluation D C V P F I R A T} {starts : ℕ} {result : Result (Next R) (Fault I R)} {new : Cache C I R A T} {after : Evaluation D C V P F I R A T} {later : ℕ}
       → Ran G X same same_result noop kind goal fate old e starts result new after later → IfOk result (λ next. HasCounted G.last starts later 1)
-  ran_counts {starts = starts} (Began goals nodes later pushes fates nodes_kept one counted) = counts_first G.last starts later (counted counts)
-  ran_counts (NotBegun goals later least one) = tt
+  ran_counts {starts = starts} (Began goals held nodes later pushes fates holds nodes_kept one counted) = counts_first G.last starts later (counted counts)
+  ran_counts (NotBegun goals held later least one) = tt
   ran_counts {starts = starts} (Then given mid between now result new after later ran turned) = then result (turn_counts turned) (ran_counts ran)
     where
       then : (r : Result (Next R) (Fault I R)) → IfOk r (λ next. now ≤ later) → HasCounted G.last starts now 1 → IfOk r (λ next. HasCounted G.last starts later 1)
@@ -125,7 +125,7 @@ module _ {D C V P F I R A T : Type 0} {G : DelegateOf D C V P F I R A T} {X : Cx
         → IfOk result (λ next. IfAnswer next (NewestComesTo (G.script old.cx) (G.fixpoint_overflow old.cx) e.goals))
     move_comes (FrameFailed fault goals failed) = tt
     move_comes (Asked kind goal goals given new after later stepped asking asks) = tt
-    move_comes (NotAsked kind goal goals new after later stepped stops asks) = tt
+    move_comes (NotAsked kind goal goals new after later stepped fails asks) = tt
     move_comes (RunEnded outcome goals result new after later stepped runs ends) =
         let asked : Requests G X same old.cx (Done outcome) call (work_left G X old.cx e.goals) old (record e { goals = goals }) starts =
         requests G X same old.cx old e received old.cx refl (Done outcome) goals stepped starts starts refl (Done outcome) refl right call awaits in
@@ -158,8 +158,8 @@ module _ {D C V P F I R A T : Type 0} {G : DelegateOf D C V P F I R A T} {X : Cx
       (outset : IsAtOutset old e) (are_runs : AreRuns (verdicts X) (G.script old.cx) old.nodes) (sound : AreSoundResults same (verdicts X) (G.script old.cx) old.nodes old.results) where
     ran_comes : {answer : Answer R} {new : Cache C I R A T} {after : Evaluation D C V P F I R A T} {later : ℕ} (result : Result (Next R) (Fault I R)) → result ≡ Ok (Finished answer) → Ran G X same same_result noop kind goal fate old e starts result new after later
         → ComesTo (G.script old.cx) (G.fixpoint_overflow old.cx) goal answer.result
-    ran_comes result is (Began goals nodes later pushes fates nodes_kept one counted) = absurd cc
-    ran_comes result is (NotBegun goals later least one) = absurd cc
+    ran_comes result is (Began goals held nodes later pushes fates holds nodes_kept one counted) = absurd cc
+    ran_comes result is (NotBegun goals held later least one) = absurd cc
     ran_comes {answer = answer} result is (Then given mid between now told new after later ran turned) =
         let known = call_of goal e.root_depth.0 starts e.limits_met false false outset.new.fits in
         let begins = some_call_begins G X old.cx same goal e.root_depth.0 starts e.limits_met outset.new.fits old.results in

@@ -1,23 +1,24 @@
 -- What follows of a whole call, turn by turn.
-use Rattle.std.proofs.Common.{◌≡◌, ◌≢◌, ◌∙◌, ◌<◌, ◌^◌, ℕ, Bool, false, [], length, List, None, Result, Ok, Err, IfOk, IfErr, OnOk, refl, sym, subst, arith}
+use Rattle.std.proofs.Common.{◌≡◌, ◌∙◌, ◌<◌, ◌^◌, ℕ, Bool, false, [], length, List, Result, Ok, Err, IfOk, IfErr, OnOk, refl, sym, subst, arith}
 use Rattle.run_records.specs.declared.runs.Fate.{Fate}
 use Rattle.run_records.specs.declared.runs.Fate.TheVariants as becomes
 use Rattle.between_moves.proofs.Keeping.{appending_keeps, cache_stays}
+use Rattle.between_moves.proofs.Scopes.{HoldScopesNext}
+use Rattle.between_moves.specs.Scopes.{HoldScopes}
 use Rattle.search_context.specs.declared.context.Answer.{Answer}
 use Rattle.search_graph.specs.Laws.{AreLaws}
-use Rattle.search_graph.proofs.ran.Turns.{turned_cache, turned_caused, turned_drafts, turned_goals, turned_leads, turned_left, turned_right, turned_stops}
+use Rattle.search_graph.proofs.ran.Turns.{turned_cache, turned_caused, turned_drafts, turned_goals, turned_leads, turned_right, turned_scopes, turned_stops}
 use Rattle.search_graph.proofs.turns.Beginning.{begins_right, begins_waiting, never_pushed}
 use Rattle.search_graph.proofs.turns.KeptFates.{first_fates, not_stored, only_meets, only_stores, then_fates, then_recorded, then_spared}
 use Rattle.search_graph.proofs.turns.Loops.{call_of, only_has_graph, only_one, some_call_begins}
 use Rattle.search_graph.proofs.turns.Turns.{begins_drafts, then_turns}
-use Rattle.search_graph.specs.Below.{AreFrom, AreRuns, AreSoundResults, Awaits, Begins, Cache, Call, CxOf, DelegateOf, EndsWith, Fault, fates_of, Finished, HasGraph, HasReply, HaveExpected, IsCaused, IsFated, IsRightFor, KeepsCache, LeadsTo, Memory, Next, OpenGoal, OutOfMemory, PathKind, Received, Step, StopsWith, verdicts, work_left}
+use Rattle.search_graph.specs.Below.{AreFrom, AreRuns, AreSoundResults, Awaits, Begins, Cache, Call, CxOf, DelegateOf, EndsWith, Fault, fates_of, Finished, HasGraph, HasReply, HaveExpected, IsCaused, IsFated, IsRightFor, KeepsCache, LeadsTo, Next, OpenGoal, OutOfMemory, PathKind, Received, Step, StopsWith, verdicts, work_left}
 use Rattle.search_graph.specs.Calls.{Evaluates, IsGrounded, IsOfFate, MovesGoals, Spares}
 use Rattle.search_graph.specs.Fates.{KeepsFates}
 use Rattle.search_graph.specs.Ran.{Began, ended, IfEnd, IfStep, NotBegun, Ran, Then, Turned}
 use Rattle.search_graph.specs.Worked.{WorksOut}
-use Rattle.search_graph.specs.Turns.{HasDrafts, IsAtOutset, IsRightTurn, KeepsDrafts}
+use Rattle.search_graph.specs.Turns.{HasDrafts, IsAtOutset, IsRightTurn}
 use Rattle.search_rules.proofs.records.EarlierNodes.{stay_pushed}
-use Rattle.search_state.specs.Drafts.{LeavesReached}
 use Rattle.search_state.specs.declared.evaluation.Evaluation.{Evaluation}
 
 -- what holds of what comes next holds of the reply, if it is one, and of the answer
@@ -87,15 +88,15 @@ module _ {D C V P F I R A T : Type 0} {G : DelegateOf D C V P F I R A T} {X : Cx
 
   pub kept :
       {result : Result (Next R) (Fault I R)} {new : Cache C I R A T} {after : Evaluation D C V P F I R A T} {later : ℕ} → Ran G X same same_result noop kind goal fate old e starts result new after later → IsKept same old e.goals result new after
-  kept (Began goals nodes later pushes fates nodes_kept one counted) = record {
+  kept (Began goals held nodes later pushes fates holds nodes_kept one counted) = record {
     keeps = appending_keeps same e.goals old (record old { nodes = nodes }) refl nodes_kept;
     drafts = (
-      begins_drafts X same (G.script old.cx) old (record old { nodes = nodes }) e (record e { goals = goals }) outset.no_drafts are_runs sound refl nodes_kept refl
+      begins_drafts X same (G.script old.cx) old (record old { nodes = nodes }) e (record e { goals = goals; scopes = held }) outset.no_drafts are_runs sound refl nodes_kept refl
           (stay_pushed G X old.cx old.nodes e.goals goals goal kind e.root_depth nodes pushes (length old.nodes) (omega arith) (subst (AreFrom (length old.nodes)) (sym outset.new.no_goals) tt)),
       outset.no_drafts.first,
     );
   }
-  kept (NotBegun goals later least one) = record { keeps = cache_stays same e.goals old; drafts = tt }
+  kept (NotBegun goals held later least one) = record { keeps = cache_stays same e.goals old; drafts = tt }
   kept (Then given mid between now result new after later ran turned) =
       let before = kept ran in
       record {
@@ -112,8 +113,8 @@ module _ {D C V P F I R A T : Type 0} {G : DelegateOf D C V P F I R A T} {X : Cx
   pub ran_right :
       {result : Result (Next R) (Fault I R)} {new : Cache C I R A T} {after : Evaluation D C V P F I R A T} {later : ℕ} → Ran G X same same_result noop kind goal fate old e starts result new after later
       → IfStep result (λ given. IsRightFor G X same old.cx given new after)
-  ran_right (Began goals nodes later pushes fates nodes_kept one counted) = begins_right G X same old.cx kind goal old e outset.new e.root_depth goals nodes pushes sound
-  ran_right (NotBegun goals later least one) = tt
+  ran_right (Began goals held nodes later pushes fates holds nodes_kept one counted) = begins_right G X same old.cx kind goal old e outset.new e.root_depth goals held nodes pushes sound
+  ran_right (NotBegun goals held later least one) = tt
   ran_right (Then given mid between now result new after later ran turned) =
       step_of result (λ next. IsRightTurn G X same old.cx between.goals next new after) _
       (right_over laws (ran_keeps ran).context turned (ran_right ran))
@@ -125,8 +126,8 @@ module _ {D C V P F I R A T : Type 0} {G : DelegateOf D C V P F I R A T} {X : Cx
     pub ran_waits :
         {result : Result (Next R) (Fault I R)} {new : Cache C I R A T} {after : Evaluation D C V P F I R A T} {later : ℕ} → Ran G X same same_result noop kind goal fate old e starts result new after later
         → IfStep result (λ given. Awaits G X same old.cx call given new after later)
-    ran_waits (Began goals nodes later pushes fates nodes_kept one counted) = begins_waiting G X same old.cx kind goal old e outset.new e.root_depth goals nodes pushes starts later one counted call at
-    ran_waits (NotBegun goals later least one) = tt
+    ran_waits (Began goals held nodes later pushes fates holds nodes_kept one counted) = begins_waiting G X same old.cx kind goal old e outset.new e.root_depth goals held nodes pushes starts later one counted call at
+    ran_waits (NotBegun goals held later least one) = tt
     ran_waits (Then given mid between now result new after later ran turned) =
         step_of result (λ next. LeadsTo G X same old.cx call (work_left G X old.cx between.goals) between.goals next new after later) _
         (leads_over laws (ran_keeps ran).context turned (ran_right ran) call (ran_waits ran))
@@ -144,8 +145,8 @@ module _ {D C V P F I R A T : Type 0} {G : DelegateOf D C V P F I R A T} {X : Cx
     pub ran_stops :
         {result : Result (Next R) (Fault I R)} {new : Cache C I R A T} {after : Evaluation D C V P F I R A T} {later : ℕ} → Ran G X same same_result noop kind goal fate old e starts result new after later
         → IfErr result (λ fault. StopsWith G X same old.cx call fault new after later)
-    ran_stops (Began goals nodes later pushes fates nodes_kept one counted) = tt
-    ran_stops (NotBegun goals later least one) = never_pushed G X same old.cx kind goal old e outset.new e.root_depth old (record e { goals = goals }) starts later refl refl least one call at
+    ran_stops (Began goals held nodes later pushes fates holds nodes_kept one counted) = tt
+    ran_stops (NotBegun goals held later least one) = never_pushed G X same old.cx kind goal old e outset.new e.root_depth old (record e { goals = goals; scopes = held }) starts later refl refl least one call at
     ran_stops (Then given mid between now result new after later ran turned) =
         stops_over laws (ran_keeps ran).context turned (ran_right ran) call (ran_waits ran)
 
@@ -155,9 +156,9 @@ module _ {D C V P F I R A T : Type 0} {G : DelegateOf D C V P F I R A T} {X : Cx
     pub ran_fates :
         {result : Result (Next R) (Fault I R)} {new : Cache C I R A T} {after : Evaluation D C V P F I R A T} {later : ℕ} → Ran G X same same_result noop kind goal fate old e starts result new after later
         → IfStep result (λ given. KeepsFates (G.scoped old.cx) (G.script old.cx) same noop goal fate old.results after.goals new.results)
-    ran_fates (Began goals nodes later pushes fates nodes_kept one counted) =
+    ran_fates (Began goals held nodes later pushes fates holds nodes_kept one counted) =
         first_fates (G.scoped old.cx) (G.script old.cx) same noop goal fate old.results e.root_depth.0 e.goals goals old.results outset.new.no_goals fates fated refl
-    ran_fates (NotBegun goals later least one) = tt
+    ran_fates (NotBegun goals held later least one) = tt
     ran_fates (Then given mid between now result new after later ran turned) =
         let h = ran_fates ran in
         let before = kept ran in
@@ -168,8 +169,8 @@ module _ {D C V P F I R A T : Type 0} {G : DelegateOf D C V P F I R A T} {X : Cx
     pub ran_spares :
         {result : Result (Next R) (Fault I R)} {new : Cache C I R A T} {after : Evaluation D C V P F I R A T} {later : ℕ} → Ran G X same same_result noop kind goal fate old e starts result new after later
         → Spares same noop fate goal old.results new.results
-    ran_spares (Began goals nodes later pushes fates nodes_kept one counted) = record { recorded = λ records. refl; spared = λ unstored place. refl }
-    ran_spares (NotBegun goals later least one) = record { recorded = λ records. refl; spared = λ unstored place. refl }
+    ran_spares (Began goals held nodes later pushes fates holds nodes_kept one counted) = record { recorded = λ records. refl; spared = λ unstored place. refl }
+    ran_spares (NotBegun goals held later least one) = record { recorded = λ records. refl; spared = λ unstored place. refl }
     ran_spares (Then given mid between now result new after later ran turned) =
         let h = ran_fates ran in
         let before = kept ran in
@@ -185,8 +186,8 @@ module _ {D C V P F I R A T : Type 0} {G : DelegateOf D C V P F I R A T} {X : Cx
       pub ran_ends :
           {result : Result (Next R) (Fault I R)} {new : Cache C I R A T} {after : Evaluation D C V P F I R A T} {later : ℕ} → Ran G X same same_result noop kind goal fate old e starts result new after later
           → IfEnd result (λ answer. EndsWith G X same old.cx (fate ≡ becomes.Stored) (IsOfFate fate) call answer new after later)
-      ran_ends (Began goals nodes later pushes fates nodes_kept one counted) = tt
-      ran_ends (NotBegun goals later least one) = tt
+      ran_ends (Began goals held nodes later pushes fates holds nodes_kept one counted) = tt
+      ran_ends (NotBegun goals held later least one) = tt
       ran_ends (Then given mid between now result new after later ran turned) =
           let h = ran_fates ran in
           end_of result (λ next. LeadsTo G X same old.cx call (work_left G X old.cx between.goals) between.goals next new after later) _ (then_leads call at ran turned)
@@ -197,13 +198,13 @@ module _ {D C V P F I R A T : Type 0} {G : DelegateOf D C V P F I R A T} {X : Cx
             compared = λ stored is_compared. only_meets (G.scoped old.cx) (G.script old.cx) same noop goal fate old.results between.goals only.0 only.1 answer.result stored is_compared h.oldest on.compared;
           })
 
-  -- ---- the answer has its graph, and a fault its cause, and nothing else is left
+  -- ---- the answer has its graph, and a fault its cause
 
   pub ran_has_graph :
       {result : Result (Next R) (Fault I R)} {new : Cache C I R A T} {after : Evaluation D C V P F I R A T} {later : ℕ} → Ran G X same same_result noop kind goal fate old e starts result new after later
       → IfEnd result (λ answer. HasGraph (verdicts X) new.nodes goal answer.result answer.node)
-  ran_has_graph (Began goals nodes later pushes fates nodes_kept one counted) = tt
-  ran_has_graph (NotBegun goals later least one) = tt
+  ran_has_graph (Began goals held nodes later pushes fates holds nodes_kept one counted) = tt
+  ran_has_graph (NotBegun goals held later least one) = tt
   ran_has_graph (Then given mid between now result new after later ran turned) =
       let begins = some_call_begins G X old.cx same goal e.root_depth.0 starts e.limits_met outset.new.fits old.results in
       end_both result (λ answer. LeadsTo G X same old.cx (some_call goal e starts outset.new.fits) (work_left G X old.cx between.goals) between.goals (Finished answer) new after later) (λ answer. IsRightTurn G X same old.cx between.goals (Finished answer) new after) _
@@ -211,33 +212,24 @@ module _ {D C V P F I R A T : Type 0} {G : DelegateOf D C V P F I R A T} {X : Cx
       (end_of result (λ next. IsRightTurn G X same old.cx between.goals next new after) _ (right_over laws (ran_keeps ran).context turned (ran_right ran)) (λ answer on. on))
       (λ answer on right. only_has_graph G X old.cx new.nodes between.goals [] goal answer on.leads.1 right)
 
-  pub ran_leaves :
-      {result : Result (Next R) (Fault I R)} {new : Cache C I R A T} {after : Evaluation D C V P F I R A T} {later : ℕ} → Ran G X same same_result noop kind goal fate old e starts result new after later
-      → IfEnd result (λ answer. LeavesReached same (length old.nodes) answer.node new)
-  ran_leaves (Began goals nodes later pushes fates nodes_kept one counted) = tt
-  ran_leaves (NotBegun goals later least one) = tt
-  ran_leaves (Then given mid between now result new after later ran turned) =
-      let before = kept ran in
-      end_of result (λ next. KeepsDrafts same between next new after) _ (turned_drafts before.drafts.0 turned)
-      (λ answer has. subst (λ n. LeavesReached same n answer.node new) (has.first ∙ before.drafts.1) has.has)
-
-  pub ran_left :
-      {result : Result (Next R) (Fault I R)} {new : Cache C I R A T} {after : Evaluation D C V P F I R A T} {later : ℕ} → Ran G X same same_result noop kind goal fate old e starts result new after later
-      → IfErr result (λ fault. fault ≢ Memory → LeavesReached same (length old.nodes) None new)
-  ran_left (Began goals nodes later pushes fates nodes_kept one counted) = tt
-  ran_left (NotBegun goals later least one) = λ other. absurd (other refl)
-  ran_left (Then given mid between now result new after later ran turned) =
-      let before = kept ran in
-      subst (λ n. IfErr result (λ fault. fault ≢ Memory → LeavesReached same n None new)) before.drafts.1 (turned_left before.drafts.0 turned)
-
   pub ran_caused :
       {result : Result (Next R) (Fault I R)} {new : Cache C I R A T} {after : Evaluation D C V P F I R A T} {later : ℕ} → Ran G X same same_result noop kind goal fate old e starts result new after later
       → IfErr result (IsCaused G X same new)
-  ran_caused (Began goals nodes later pushes fates nodes_kept one counted) = tt
-  ran_caused (NotBegun goals later least one) = OutOfMemory refl
+  ran_caused (Began goals held nodes later pushes fates holds nodes_kept one counted) = tt
+  ran_caused (NotBegun goals held later least one) = OutOfMemory refl
   ran_caused (Then given mid between now result new after later ran turned) =
       let begins = some_call_begins G X old.cx same goal e.root_depth.0 starts e.limits_met outset.new.fits old.results in
       caused_over laws (ran_keeps ran).context turned (ran_right ran) (some_call goal e starts outset.new.fits) (ran_waits (some_call goal e starts outset.new.fits) begins ran)
+
+  -- ---- which goals hold scopes
+
+  pub ran_scopes :
+      {result : Result (Next R) (Fault I R)} {new : Cache C I R A T} {after : Evaluation D C V P F I R A T} {later : ℕ} → Ran G X same same_result noop kind goal fate old e starts result new after later
+      → IfOk result (λ next. HoldScopesNext next after.goals after.scopes)
+  ran_scopes (Began goals held nodes later pushes fates holds nodes_kept one counted) =
+      subst (λ fs. HoldScopes fs held) (sym fates) (e.scopes, holds, subst (λ gs. HoldScopes (fates_of gs) e.scopes) (sym outset.new.no_goals) outset.new.no_scopes)
+  ran_scopes (NotBegun goals held later least one) = tt
+  ran_scopes (Then given mid between now result new after later ran turned) = turned_scopes (ran_scopes ran) turned
 
   -- ---- so the next turn can be taken, which leaves less work
 
@@ -267,18 +259,14 @@ module _ {D C V P F I R A T : Type 0} {G : DelegateOf D C V P F I R A T} {X : Cx
   call_evaluates (Ok answer) ran = record { ended = λ call at. ran_ends laws outset are_runs sound fated call at ran; stopped = λ call at. tt }
   call_evaluates (Err fault) ran = record { ended = λ call at. tt; stopped = λ call at. ran_stops laws outset are_runs sound call at ran }
 
-  call_is_grounded : (result : Result (Answer R) (Fault I R)) → Ran G X same same_result noop kind goal fate old e starts (ended result) new after later → IsGrounded G X same goal (length old.nodes) new result
+  call_is_grounded : (result : Result (Answer R) (Fault I R)) → Ran G X same same_result noop kind goal fate old e starts (ended result) new after later → IsGrounded G X same goal new result
   call_is_grounded (Ok answer) ran = record {
     has_graph = ran_has_graph laws outset are_runs sound ran;
-    leaves = ran_leaves laws outset are_runs sound ran;
     caused = tt;
-    left = tt;
   }
   call_is_grounded (Err fault) ran = record {
     has_graph = tt;
-    leaves = tt;
     caused = ran_caused laws outset are_runs sound ran;
-    left = ran_left laws outset are_runs sound ran;
   }
 
   pub works_out : (result : Result (Answer R) (Fault I R)) → Ran G X same same_result noop kind goal fate old e starts (ended result) new after later → WorksOut G X same noop goal fate old e starts result new after later

@@ -1,11 +1,11 @@
 -- A move, as the code makes it: the context was read, and a frame's step counts no start.
 use Rattle.std.proofs.Common.{◌≡◌, ℕ, Bool, List, Result, Err, None, Some, Ok, refl, sym, subst}
 use Rattle.std.specs.Result.{IsErrAnd}
-use Rattle.search_graph.specs.Below.{AreRuns, Cache, Call, CxOf, DelegateOf, Done, Evaluate, Fault, HasStepped, IsReplyTo, IsStepFault, Memory, Next, NotesCandidate, OpenGoal, PathKind, Received, Request, Requests, Step, StopsWith, verdicts}
+use Rattle.search_graph.specs.Below.{AreRuns, Cache, CxOf, DelegateOf, Done, Evaluate, Fault, HasStepped, IsReplyTo, IsStepFault, Memory, Next, NotesCandidate, OpenGoal, PathKind, Received, Request, Step, verdicts}
 use Rattle.search_context.specs.declared.context.Reply.TheVariants as reply
-use Rattle.search_graph.specs.Ran.{Advanced, Asked, Asks, FrameFailed, NotAsked, Noted, NotNoted, RunEnded}
+use Rattle.search_graph.specs.Ran.{Advanced, Asked, FrameFailed, NotAsked, Noted, NotNoted, RunEnded}
 use Rattle.search_ends.specs.Words.{RunEnds}
-use Rattle.search_questions.specs.Words.{AskingLeadsTo}
+use Rattle.search_questions.specs.Words.{AskingFails, AskingLeadsTo, Asks}
 use Rattle.search_rules.proofs.moves.Questions.{same_err}
 use Rattle.search_state.specs.declared.evaluation.Evaluation.{Evaluation}
 
@@ -24,7 +24,7 @@ module _ {D C V P F I R A T : Type 0} (G : DelegateOf D C V P F I R A T) (X : Cx
     stepped_as request is = subst (λ q. HasStepped G X old.cx received q e.goals goals) is (subst (λ c. HasStepped G X c received made e.goals goals) reads stepped)
 
     module _ (now : ℕ) (is_now : now ≡ starts) (new : Cache C I R A T) (after : Evaluation D C V P F I R A T) (later : ℕ) where
-      module _ (kind : PathKind) (goal : I) (is : made ≡ Evaluate kind goal) (keeps : Asks G X same same_result noop old (record e { goals = goals }) new after) where
+      module _ (kind : PathKind) (goal : I) (is : made ≡ Evaluate kind goal) (keeps : Asks G same old (record e { goals = goals }) new after) where
         pub asks :
             (quiet : Bool) → quiet ≡ noop → (given : Received R) → AskingLeadsTo G X same old.cx kind goal quiet old (record e { goals = goals }) now given new after later
             → Advanced G X same same_result noop received old e starts (Ok (Step given)) new after later
@@ -35,12 +35,12 @@ module _ {D C V P F I R A T : Type 0} (G : DelegateOf D C V P F I R A T) (X : Cx
             keeps
 
         pub fails_to_ask :
-            ((call : Call I) (ahead : ℕ) → Requests G X same old.cx (Evaluate kind goal) call ahead old (record e { goals = goals }) now → StopsWith G X same old.cx call Memory new after later)
+            AskingFails G old (record e { goals = goals }) now new after later
             → (result : Result (Next R) (Fault I R)) → IsErrAnd result (λ other. other ≡ Memory) → Advanced G X same same_result noop received old e starts result new after later
-        fails_to_ask stops result told =
+        fails_to_ask fails result told =
             subst (λ r. Advanced G X same same_result noop received old e starts r new after later) (same_err result Memory told)
             (NotAsked kind goal goals new after later (stepped_as (Evaluate kind goal) is)
-            (subst (λ n. (call : Call I) (ahead : ℕ) → Requests G X same old.cx (Evaluate kind goal) call ahead old (record e { goals = goals }) n → StopsWith G X same old.cx call Memory new after later) is_now stops) keeps)
+            (subst (λ n. AskingFails G old (record e { goals = goals }) n new after later) is_now fails) keeps)
 
       pub ends : (outcome : R) → made ≡ Done outcome → (result : Result (Next R) (Fault I R)) → AreRuns (verdicts X) (G.script old.cx) old.nodes → RunEnds G X same same_result outcome old (record e { goals = goals }) now result new after later → Advanced G X same same_result noop received old e starts result new after later
       ends outcome is result runs ended =

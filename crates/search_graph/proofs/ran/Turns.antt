@@ -1,16 +1,18 @@
 -- What follows of a turn, which is a move after which nodes are let go: the same as of the move.
-use Rattle.std.proofs.Common.{◌≡◌, ◌≢◌, ◌∙◌, ℕ, Bool, None, Result, IfOk, IfErr, OnOk, refl, sym, subst}
+use Rattle.std.proofs.Common.{◌≡◌, ◌∙◌, ℕ, Bool, None, Result, IfOk, IfErr, OnOk, refl, sym, subst}
 use Rattle.search_graph.specs.Laws.{AreLaws}
-use Rattle.search_graph.proofs.ran.Moves.{advanced_cache, advanced_goals, advanced_lasts, advanced_leads, advanced_noted, advanced_right, advanced_stops}
+use Rattle.between_moves.proofs.Scopes.{HoldScopesNext}
+use Rattle.between_moves.specs.Scopes.{HoldScopes}
+use Rattle.search_graph.proofs.ran.Moves.{advanced_cache, advanced_goals, advanced_lasts, advanced_leads, advanced_noted, advanced_right, advanced_scopes, advanced_stops}
 use Rattle.search_graph.proofs.turns.Causes.{cause_stays_at_end}
 use Rattle.search_graph.proofs.turns.Turns.{end_leads, end_right, end_stops, fault_stops, memory_stops, noted_of, turn_before, turn_has, turn_keeps, turn_leads, turn_right}
-use Rattle.search_graph.specs.Below.{AreFrom, Awaits, Cache, Call, CxOf, DelegateOf, Fault, IsCaused, IsFated, IsRightFor, IsWaiting, KeepsFirst, LeadsTo, Memory, Next, OutOfMemory, Received, StopsWith, work_left}
+use Rattle.search_graph.specs.Below.{AreFrom, Awaits, Cache, Call, CxOf, DelegateOf, Fault, fates_of, IsCaused, IsFated, IsRightFor, IsWaiting, KeepsFirst, LeadsTo, Next, OutOfMemory, Received, StopsWith, work_left}
 use Rattle.search_graph.specs.Calls.{MovesGoals}
 use Rattle.search_graph.specs.Ran.{Advanced, Answered, Failed, FailedForGood, GoesOn, NotAnswered, Turned}
 use Rattle.search_graph.specs.Turns.{HasDrafts, IsRightTurn, KeepsDrafts, TurnsCache}
 use Rattle.search_questions.proofs.nodes.LettingGo.{noted_stay}
 use Rattle.graph_nodes.specs.Collected.{StayBefore}
-use Rattle.search_state.specs.Drafts.{AreNotedNodes, LeavesReached}
+use Rattle.search_state.specs.Drafts.{AreNotedNodes}
 use Rattle.search_state.specs.declared.evaluation.Evaluation.{Evaluation}
 
 module _ {D C V P F I R A T : Type 0} {G : DelegateOf D C V P F I R A T} {X : CxOf C I R A T} {same : I → I → Bool} {same_result : R → R → Bool} {noop : Bool} {received : Received R} {old : Cache C I R A T} {e : Evaluation D C V P F I R A T} {starts : ℕ} where
@@ -79,6 +81,17 @@ module _ {D C V P F I R A T : Type 0} {G : DelegateOf D C V P F I R A T} {X : Cx
   turned_goals (Failed fault mid new between after later advanced goes is) = tt
   turned_goals (FailedForGood fault new between after later advanced is) = tt
 
+  -- which goals hold scopes
+  pub turned_scopes :
+      {result : Result (Next R) (Fault I R)} {new : Cache C I R A T} {after : Evaluation D C V P F I R A T} {later : ℕ} → HoldScopes (fates_of e.goals) e.scopes → Turned G X same same_result noop received old e starts result new after later
+      → IfOk result (λ next. HoldScopesNext next after.goals after.scopes)
+  turned_scopes h (GoesOn given mid new between after later advanced goes is first stored) =
+      subst (λ (a : Evaluation D C V P F I R A T). HoldScopes (fates_of a.goals) a.scopes) (sym is) (advanced_scopes h advanced)
+  turned_scopes h (Answered answer mid new after later advanced goes) = advanced_scopes h advanced
+  turned_scopes h (NotAnswered answer new after later advanced) = tt
+  turned_scopes h (Failed fault mid new between after later advanced goes is) = tt
+  turned_scopes h (FailedForGood fault new between after later advanced is) = tt
+
   module _ (has : HasDrafts same old e) where
     module _ {result : Result (Next R) (Fault I R)} {mid : Cache C I R A T} {between : Evaluation D C V P F I R A T} {later : ℕ} (advanced : Advanced G X same same_result noop received old e starts result mid between later) where
       -- nodes that were there before are there after a move, and what is let go after it came later
@@ -122,17 +135,7 @@ module _ {D C V P F I R A T : Type 0} {G : DelegateOf D C V P F I R A T} {X : Cx
               (noted_of same new between.drafts after.drafts first stored (noted_stay G X same old.cx between mid new given.node goes (noted.noted_are has.noted_are)));
         }
     turned_drafts (Answered answer mid new after later advanced goes) =
-        record { first = (advanced_noted advanced).first; has = goes.leaves }
+        record { first = (advanced_noted advanced).first; has = tt }
     turned_drafts (NotAnswered answer new after later advanced) = tt
     turned_drafts (Failed fault mid new between after later advanced goes is) = tt
     turned_drafts (FailedForGood fault new between after later advanced is) = tt
-
-    pub turned_left :
-        {result : Result (Next R) (Fault I R)} {new : Cache C I R A T} {after : Evaluation D C V P F I R A T} {later : ℕ} → Turned G X same same_result noop received old e starts result new after later
-        → IfErr result (λ fault. fault ≢ Memory → LeavesReached same e.drafts.first None new)
-    turned_left (GoesOn given mid new between after later advanced goes is first stored) = tt
-    turned_left (Answered answer mid new after later advanced goes) = tt
-    turned_left (NotAnswered answer new after later advanced) = λ other. absurd (other refl)
-    turned_left (Failed fault mid new between after later advanced goes is) =
-        λ other. subst (λ n. LeavesReached same n None new) (advanced_noted advanced).first goes.leaves
-    turned_left (FailedForGood fault new between after later advanced is) = λ other. absurd (other refl)

@@ -2,6 +2,7 @@
 use Rattle.std.proofs.Common.{◌≡◌, ℕ, Bool, List, sym, ◌∙◌, subst}
 use Rattle.search_graph.specs.Below.{DelegateOf, CxOf, Request, Received, Cache, HasStepped, IsStepFault, NotesCandidate, OpenGoal, Fault, Awaits, Call, fates_of, HasReply, HasRequest, HaveExpected, IsRight, IsRightFor, Requests, StopsWith, work_left}
 use Rattle.search_state.specs.declared.evaluation.Evaluation.{Evaluation}
+use Rattle.between_moves.specs.Scopes.{HoldScopes}
 use Rattle.search_graph.proofs.turns.Causes.{step_keeps_free}
 use Rattle.search_graph.proofs.turns.Loops.{advance_asks, advance_justified, advance_stops, step_asks_for, stepped_some}
 use Rattle.search_rules.proofs.moves.Fates.{fates_stepped}
@@ -51,3 +52,7 @@ module _ {D C V P F I R A T : Type 0} (G : DelegateOf D C V P F I R A T) (X : Cx
         HaveExpected (G.scoped cx) (G.script cx) same cache.results (fates_of e.goals)
         → HaveExpected (G.scoped cx) (G.script cx) same cache.results (fates_of goals)
     has_expected = subst (HaveExpected (G.scoped cx) (G.script cx) same cache.results) (sym (fates_stepped G X read e.goals goals given made stepped))
+
+    -- nor which goals hold scopes
+    pub has_held : HoldScopes (fates_of e.goals) e.scopes → HoldScopes (fates_of goals) e.scopes
+    has_held = subst (λ fs. HoldScopes fs e.scopes) (sym (fates_stepped G X read e.goals goals given made stepped))

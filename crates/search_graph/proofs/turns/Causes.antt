@@ -1,6 +1,8 @@
 -- Why a step fails, that the cause of a fault lasts, and that stored results rest on no goal while steps are taken.
-use Rattle.std.proofs.Common.{◌≡◌, ℕ, Bool, List, ◌∷◌, Option, refl, sym, subst}
-use Rattle.search_graph.specs.Below.{DelegateOf, CxOf, Request, Fault, IsCaused, NodeId, StoredResult, OpenGoal, Cache, CacheNode, Store, Received, requested, HasStepped, IsStepFault, NoMemoryLeft, received_by, verdicts, Call, IsWaiting, AreFree, IsFit, run_of, runs_of}
+use Rattle.std.proofs.Common.{◌≡◌, ℕ, Bool, List, ◌∷◌, Option, Some, refl, sym, subst}
+use Rattle.goal_changes.specs.Below.{fault_of, IsVerdict, Steps}
+use Rattle.search_context.specs.Run.{fault_after, IsFitting}
+use Rattle.search_graph.specs.Below.{DelegateOf, CxOf, Reply, Request, Run, StackEntry, Verdict, Fault, IsCaused, NodeId, StoredResult, OpenGoal, Cache, CacheNode, Store, Received, requested, HasStepped, IsStepFault, NoMemoryLeft, received_by, verdicts, Call, IsWaiting, AreFree, IsFit, run_of, runs_of}
 use Rattle.search_ends.specs.Storing.{HasLastingCause}
 use Rattle.search_state.specs.declared.drafts.Drafts.{Drafts}
 use Rattle.search_ends.proofs.results.Causes.{memory_lasts}
@@ -13,17 +15,23 @@ use Rattle.search_questions.specs.Collecting.{LetsGoAtEnd}
 use Rattle.search_state.specs.declared.evaluation.Evaluation.{Evaluation}
 
 module _ {D C V P F I R A T : Type 0} (G : DelegateOf D C V P F I R A T) (X : CxOf C I R A T) (same : I → I → Bool) (cache : Cache C I R A T) (drafts : Drafts) (given : Received R) (goals : List (OpenGoal C F I R A T)) (starts : ℕ) (met : Bool) where
+  -- where the newest goal's request was out of order, its script made it after replies that fit
+  pub disorderly_script :
+      (call : Call I) → IsFit (verdicts X) cache.nodes (runs_of goals) given.reply given.node → IsWaiting G X cache.cx call given.reply goals starts met
+      → (entry : StackEntry C I R A T) (run : Run C F I R A T) (frame : F) (verdict : Verdict) (below : List (OpenGoal C F I R A T)) (request : Request I R) (number : ℕ)
+      → goals ≡ (entry, run) ∷ below → IsVerdict (verdicts X) given.reply verdict → Steps G.stands G.script run.frame given.reply request frame → fault_of (received_by G X cache.cx run given verdict) request ≡ Some number
+      → (replies : List (Reply R)) × IsFitting (G.script cache.cx entry.input) replies × (fault_after (G.script cache.cx entry.input) replies ≡ Some number)
+  disorderly_script call fit h entry run frame verdict below request number was is_verdict taken disorderly =
+      let there : IsWaiting G X cache.cx call given.reply ((entry, run) ∷ below) starts met = subst (λ v. IsWaiting G X cache.cx call given.reply v starts met) was h in
+      let stood = can_step_record G X cache.cx call given.reply (entry, run) below starts met there in
+      (given.reply ∷ stood.0, stood.2, fault_after_step G X cache.cx call entry run frame verdict given request taken (replies_sorted G X cache.cx cache.nodes call given goals starts met h fit verdict is_verdict) number disorderly stood.0 stood.1 stood.2)
+
   -- a step failed for want of memory, or since the newest goal's request was out of order
   lasting_at : (call : Call I) → IsFit (verdicts X) cache.nodes (runs_of goals) given.reply given.node → IsWaiting G X cache.cx call given.reply goals starts met → (fault : Fault I R) → IsStepFault G X cache.cx given goals fault → HasLastingCause G X same cache drafts fault
   lasting_at call fit h fault (NoMemoryLeft is) = memory_lasts G X same cache drafts fault is
   lasting_at call fit h fault (steps.OutOfOrder entry run frame verdict below request number was is_verdict taken disorderly is) =
-      let there : IsWaiting G X cache.cx call given.reply ((entry, run) ∷ below) starts met = subst (λ v. IsWaiting G X cache.cx call given.reply v starts met) was h in
-      let stood = can_step_record G X cache.cx call given.reply (entry, run) below starts met there in
-      let asked = fault_after_step G X cache.cx call entry run frame verdict given request taken (replies_sorted G X cache.cx cache.nodes call given goals starts met h fit verdict is_verdict) number disorderly stood.0 stood.1 stood.2 in
-      record {
-        caused = OutOfOrder entry.input (given.reply ∷ stood.0) number stood.2 asked is;
-        lasts = λ live left collected results noted. OutOfOrder entry.input (given.reply ∷ stood.0) number stood.2 asked is;
-      }
+      let asked = disorderly_script call fit h entry run frame verdict below request number was is_verdict taken disorderly in
+      record { caused = OutOfOrder entry.input asked.0 number asked.1 asked.2 is; lasts = λ live left collected results noted. OutOfOrder entry.input asked.0 number asked.1 asked.2 is }
 
   pub step_has_cause : (call : Call I) → IsFit (verdicts X) cache.nodes (runs_of goals) given.reply given.node → IsWaiting G X cache.cx call given.reply goals starts met → (read : C) → read ≡ cache.cx → (fault : Fault I R) → IsStepFault G X read given goals fault → HasLastingCause G X same cache drafts fault
   step_has_cause call fit h read is_cx fault failed = lasting_at call fit h fault (subst (λ x. IsStepFault G X x given goals fault) is_cx failed)

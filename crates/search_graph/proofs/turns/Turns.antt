@@ -3,11 +3,10 @@ use Rattle.std.specs.Prelude.{Vec}
 use Rattle.std.specs.Global.{Global}
 use Rattle.std.proofs.Common.{◌≡◌, ℕ, ◌<◌, ◌≤◌, arith, Bool, Contains, inl, inr, length, List, [], ◌∷◌, None, Option, option_map, refl, slice_get, Some, subst, sym, ap, ◌∙◌, ◌⊎◌}
 use Rattle.std.specs.Option.{IfSome, IsSomeAnd}
-use Rattle.std.proofs.lemmas.Option.{slice_get-get_or, slice_get-map, slice_get_cases, slice_get_past, slice_get_within}
+use Rattle.std.proofs.lemmas.Option.{slice_get-get_or, slice_get-map, slice_get_cases, slice_get_within}
 use Rattle.graph_nodes.specs.Nodes.{EndedRun, graph_node_of, graph_nodes_of, IsNodeOf}
 use Rattle.graph_nodes.specs.Collected.{StayBefore}
 use Rattle.global_cache.specs.Rooted.{AreRooted}
-use Rattle.graph_nodes.specs.Held.{IsGone}
 use Rattle.graph_nodes.proofs.Finished.{found_finished}
 use Rattle.global_cache.proofs.Stores.{KeepsResults-then}
 use Rattle.open_graphs.proofs.Lists.{mapped_some}
@@ -17,7 +16,7 @@ use Rattle.search_context.specs.Graph.{HasEdge}
 use Rattle.search_graph.specs.Below.{AreFrom, AreRuns, AreSoundResults, Cache, CacheNode, Call, ChangesNewest, CxOf, DelegateOf, fates_of, Fault, Finished, IsRightFor, IsRightNext, KeepsCache, KeepsFirst, KeepsNodes, KeepsResults, LeadsTo, Memory, NodeId, Place, Received, Reply, Request, Step, OpenGoal, StopsWith, stored_at, StoredResult, verdicts, Verdicts}
 use Rattle.search_rules.proofs.records.EarlierNodes.{first_there}
 use Rattle.search_graph.specs.Turns.{HasDrafts, IsRightTurn, TurnsCache}
-use Rattle.search_state.specs.Drafts.{AreNotedNodes, HasNoDrafts, LeavesReached}
+use Rattle.search_state.specs.Drafts.{AreNotedNodes, HasNoDrafts}
 use Rattle.search_questions.specs.Collecting.{LetsGo, LetsGoAtEnd}
 use Rattle.search_state.specs.declared.drafts.Drafts.{Drafts}
 use Rattle.search_state.specs.declared.evaluation.Evaluation.{Evaluation}
@@ -88,18 +87,12 @@ module _ {C I R A T : Type 0} (X : CxOf C I R A T) (same : I → I → Bool) (sc
         there = subst (λ n. n ≤ length new.nodes) (sym first) (first_there (length old.nodes) old.nodes new.nodes (omega arith) there);
         before = subst (λ n. StayBefore n new.nodes) (sym first) (stay_before_kept old.nodes new.nodes (length old.nodes) there (all_stay_before (verdicts X) scripts old.nodes runs));
         from = subst (λ n. AreFrom n after.goals) (sym first) from;
-        noted_are = record {
-          rooted = λ goal place s at. lower_first (Contains after.drafts.stored.items) s.node after.drafts.first (length old.nodes) first (stored_before old sound goal place s (ap (λ r. stored_at same r goal place) (sym same_results) ∙ at));
-          of_stored = λ node has. no_node node (subst (λ (l : List NodeId). Contains l node) (ap (λ (d : Drafts). d.stored.items) is ∙ none.none) has);
-        };
+        noted_are = λ goal place s at. lower_first (Contains after.drafts.stored.items) s.node after.drafts.first (length old.nodes) first (stored_before old sound goal place s (ap (λ r. stored_at same r goal place) (sym same_results) ∙ at));
       }
     where
       lower_first : (Also : NodeId → Type 0) (node : Option NodeId) (first length_was : ℕ) → first ≡ length_was → IfSome node (λ n. n.0 < length_was) → IfSome node (λ n. (n.0 < first) ⊎ Also n)
       lower_first Also None first length_was e h = tt
       lower_first Also (Some n) first length_was e h = inl (omega (arith, e, h))
-
-      no_node : {B : Type 0} (node : NodeId) → Contains [] node → B
-      no_node node has = absurd (omega (arith, has.1))
 
 -- ---- what a turn keeps of the cache
 
@@ -141,10 +134,7 @@ module _ {D C V P F I R A T : Type 0} (same : I → I → Bool) (before : Evalua
 
 -- drafts with the same nodes
 pub noted_of : {C I R A T : Type 0} (same : I → I → Bool) (cache : Cache C I R A T) (drafts later : Drafts) → later.first ≡ drafts.first → later.stored ≡ drafts.stored → AreNotedNodes same cache drafts → AreNotedNodes same cache later
-noted_of same cache drafts later first stored h = record {
-  rooted = subst (λ n. AreRooted same n later.stored.items cache.results) (sym first) (subst (λ (v : Vec NodeId Global). AreRooted same drafts.first v.items cache.results) (sym stored) h.rooted);
-  of_stored = λ node has. h.of_stored node (subst (λ (v : Vec NodeId Global). Contains v.items node) stored has);
-}
+noted_of same cache drafts later first stored h = subst (λ n. AreRooted same n later.stored.items cache.results) (sym first) (subst (λ (v : Vec NodeId Global). AreRooted same drafts.first v.items cache.results) (sym stored) h)
 
 module _ {D C V P F I R A T : Type 0} (G : DelegateOf D C V P F I R A T) (X : CxOf C I R A T) (same : I → I → Bool) (cx : C) (e after : Evaluation D C V P F I R A T) (mid new : Cache C I R A T) where
   -- ---- the newest goal gets a reply
@@ -190,22 +180,18 @@ module _ {D C V P F I R A T : Type 0} (G : DelegateOf D C V P F I R A T) (X : Cx
   -- ---- the call ends in a fault
 
   module _ (call : Call I) (fault : Fault I R) (starts : ℕ) where
-    pub fault_stops : new ≡ record mid { nodes = new.nodes } → after ≡ record e { goals = []; provisional = [] } → StopsWith G X same cx call fault mid e starts → StopsWith G X same cx call fault new after starts
+    pub fault_stops : new ≡ record mid { nodes = new.nodes } → after ≡ record e { goals = []; scopes = []; provisional = [] } → StopsWith G X same cx call fault mid e starts → StopsWith G X same cx call fault new after starts
     fault_stops rest is h =
         subst (λ a. StopsWith G X same cx call fault new a starts) (sym is)
-        (subst (λ c. StopsWith G X same cx call fault c (record e { goals = []; provisional = [] }) starts) (sym rest)
+        (subst (λ c. StopsWith G X same cx call fault c (record e { goals = []; scopes = []; provisional = [] }) starts) (sym rest)
         (record { stopped = h.stopped; store = h.store }))
 
     -- where there was no memory to look for nodes that can go
-    pub memory_stops : new ≡ mid → after ≡ record e { goals = []; provisional = [] } → StopsWith G X same cx call fault mid e starts → StopsWith G X same cx call Memory new after starts
+    pub memory_stops : new ≡ mid → after ≡ record e { goals = []; scopes = []; provisional = [] } → StopsWith G X same cx call fault mid e starts → StopsWith G X same cx call Memory new after starts
     memory_stops unchanged is h =
         subst (λ a. StopsWith G X same cx call Memory new a starts) (sym is)
-        (subst (λ c. StopsWith G X same cx call Memory c (record e { goals = []; provisional = [] }) starts) (sym unchanged)
+        (subst (λ c. StopsWith G X same cx call Memory c (record e { goals = []; scopes = []; provisional = [] }) starts) (sym unchanged)
         (record {
           stopped = record { stops = h.stopped.stops; keeps = h.stopped.keeps; plain = λ n plain fits. refl; decided = λ decisive unmet. tt };
           store = h.store;
         }))
-
--- a call that writes no node leaves none
-pub leaves_nothing : {C I R A T : Type 0} (same : I → I → Bool) (cache : Cache C I R A T) (target : Option NodeId) → LeavesReached same (length cache.nodes) target cache
-leaves_nothing same cache target at late left = absurd (left (subst IsGone (sym (slice_get_past cache.nodes at late)) tt))

@@ -1,4 +1,8 @@
 //! The evaluation of a goal: one loop over the goals under evaluation.
+ghost use Rattle.std.specs.Prelude.{◌≡◌, [], is_some, IfOk};
+ghost use Rattle.path_kinds.specs.declared.path.PathKind.TheVariants.{Inductive};
+ghost use Rattle.between_moves.specs.Scopes.{HoldScopes};
+ghost use Rattle.search_rules.specs.Fates.{is_compared};
 ghost use Rattle.search_graph.specs.Below.{IsFated, KeepsBuilder, HasReply, HaveExpected, fates_of};
 ghost use Rattle.search_graph.specs.Called.{Evaluated};
 ghost use Rattle.search_graph.specs.Ran.{Advanced, Ran, Turned, ended};
@@ -17,19 +21,22 @@ use search_questions::question::{ask, push_goal};
 use search_rules::look_up::{Consulted, consult};
 use search_state::evaluation::Evaluation;
 
+/// The kind of the step that asks the first goal of a call: no path leads over it, so it is as good as any other.
+const FIRST_STEP: PathKind = PathKind::Inductive;
+
 /// The answer to the goal: a stored result, if the builder lets one be used and it is not to be validated, or else
 /// what the goal is worked out to.
 pub(crate) fn evaluate<D: Delegate>(
     evaluation: &mut Evaluation<D>,
     cache: &mut GlobalCache<D>,
-    step_kind: PathKind,
     input: <D::Cx as Cx>::Input,
     inspect: &mut D::ProofTreeBuilder,
 ) -> Result<Answer<<D::Cx as Cx>::Result>, Fault<<D::Cx as Cx>::Input, <D::Cx as Cx>::Result>>
     requires outset { IsAtOutset cache.old evaluation.old }
     ensures evaluated { Evaluated D.Delegate D.Cx.Cx D.Cx.Input.eq D.Cx.Result.eq
-        (D.noop inspect.old) (D.noop inspect.old) step_kind input cache.old evaluation.old
+        (D.noop inspect.old) (D.noop inspect.old) Inductive input cache.old evaluation.old
         (D.starts inspect.old) result cache.new evaluation.new (D.starts inspect.new) }
+    ensures released { IfOk result (λ answer. evaluation.new.scopes ≡ []) }
     ensures builder { KeepsBuilder D.starts D.noop inspect.old inspect.new }
 {
     let stack = evaluation.goals.stack();
@@ -37,12 +44,12 @@ pub(crate) fn evaluate<D: Delegate>(
     let Consulted {
         stored,
         fate,
-        scope: _scope,
+        scope,
     } = consult::<D>(
         cache,
         &evaluation.provisional,
         stack,
-        step_kind,
+        FIRST_STEP,
         input,
         depth,
         inspect,
@@ -53,31 +60,36 @@ pub(crate) fn evaluate<D: Delegate>(
             node: stored.node,
         });
     }
-    work_out::<D>(evaluation, cache, step_kind, input, fate, inspect)
+    work_out::<D>(evaluation, cache, input, fate, scope, inspect)
 }
 
-/// Works the goal out, with the goals that it asks, to its answer. Its result meets this fate.
+/// Works the goal out, with the goals that it asks, to its answer. Its result meets this fate, and the scope is held until
+/// it is popped.
 pub(crate) fn work_out<D: Delegate>(
     evaluation: &mut Evaluation<D>,
     cache: &mut GlobalCache<D>,
-    step_kind: PathKind,
     input: <D::Cx as Cx>::Input,
     fate: Fate<<D::Cx as Cx>::Result>,
+    scope: Option<D::ValidationScope>,
     inspect: &mut D::ProofTreeBuilder,
 ) -> Result<Answer<<D::Cx as Cx>::Result>, Fault<<D::Cx as Cx>::Input, <D::Cx as Cx>::Result>>
     requires outset { IsAtOutset cache.old evaluation.old }
     requires fated { IsFated (D.scoped cache.old.cx) (D.script cache.old.cx) D.Cx.Input.eq
         cache.old.results (D.noop inspect.old)
         (record { goal = input; depth = evaluation.old.root_depth.0; fate = fate }) }
+    requires in_scope { is_some scope ≡ is_compared fate }
     ensures ran { Ran D.Delegate D.Cx.Cx D.Cx.Input.eq D.Cx.Result.eq (D.noop inspect.old)
-        step_kind input fate cache.old evaluation.old (D.starts inspect.old) (ended result)
+        Inductive input fate cache.old evaluation.old (D.starts inspect.old) (ended result)
         cache.new evaluation.new (D.starts inspect.new) }
+    ensures released { IfOk result (λ answer. evaluation.new.scopes ≡ []) }
     ensures builder { KeepsBuilder D.starts D.noop inspect.old inspect.new }
 {
     let depth = evaluation.root_depth;
     keeps_laws::<D>();
     is_sound(cache);
-    push_goal(evaluation, cache, step_kind, input, depth, fate, inspect)?;
+    // The scope is held first: where that is refused, no node was opened that would have to go again.
+    evaluation.scopes.hold(scope)?;
+    push_goal(evaluation, cache, FIRST_STEP, input, depth, fate, inspect)?;
     let mut received = Received::without_node(Reply::Begin);
     loop {
         match take_turn::<D>(evaluation, cache, received, inspect)? {
@@ -99,6 +111,7 @@ fn take_turn<D: Delegate>(
         cache.old evaluation.old (D.starts inspect.old) }
     requires expected { HaveExpected (D.scoped cache.old.cx) (D.script cache.old.cx)
         D.Cx.Input.eq cache.old.results (fates_of evaluation.old.goals) }
+    requires held { HoldScopes (fates_of evaluation.old.goals) evaluation.old.scopes }
     requires drafts { HasDrafts D.Cx.Input.eq cache.old evaluation.old }
     ensures turned { Turned D.Delegate D.Cx.Cx D.Cx.Input.eq D.Cx.Result.eq (D.noop inspect.old)
         received cache.old evaluation.old (D.starts inspect.old) result
@@ -132,6 +145,7 @@ fn advance<D: Delegate>(
         cache.old evaluation.old (D.starts inspect.old) }
     requires expected { HaveExpected (D.scoped cache.old.cx) (D.script cache.old.cx)
         D.Cx.Input.eq cache.old.results (fates_of evaluation.old.goals) }
+    requires held { HoldScopes (fates_of evaluation.old.goals) evaluation.old.scopes }
     ensures advanced { Advanced D.Delegate D.Cx.Cx D.Cx.Input.eq D.Cx.Result.eq
         (D.noop inspect.old) received cache.old evaluation.old (D.starts inspect.old) result
         cache.new evaluation.new (D.starts inspect.new) }

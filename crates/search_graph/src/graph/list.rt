@@ -14,7 +14,7 @@ use std::alloc::Global;
 
 impl<D: Delegate> SearchGraph<D> {
     /// Answers each query, in order, and appends its answer. A query is a root depth, a goal, and the kind of
-    /// the step that asks it; it is evaluated on a new graph, over the results of the queries before it. A
+    /// the step that asks it, on which nothing depends; it is evaluated on a new graph, over the results of the queries before it. A
     /// fault of one query is its answer, and the next one is evaluated all the same.
     ///
     /// The graphs take their memory from the allocator of `answers`. `NoMemory` where `answers` can't take one
@@ -37,10 +37,9 @@ impl<D: Delegate> SearchGraph<D> {
 
         // A refusal comes only where the room for the answers isn't there yet, and changes nothing.
         ensures refused { OnErr result
-            (vec_capacity answers.old < vec_len answers.old + length queries.now) }
-        ensures same_answers { OnErr result (answers.new.items ≡ answers.old.items) }
-        ensures same_cache { OnErr result (cache.new ≡ cache.old) }
-        ensures same_builder { OnErr result (inspect.new ≡ inspect.old) }
+            ((vec_capacity answers.old < vec_len answers.old + length queries.now)
+            × (answers.new.items ≡ answers.old.items) × (cache.new ≡ cache.old)
+            × (inspect.new ≡ inspect.old)) }
 
         // The frames that are started are within the bounds of all queries together.
         ensures frames { D.starts inspect.new ≤ D.starts inspect.old + frames_for

@@ -1,6 +1,5 @@
 //! A goal that is worked out whatever is stored of it, so that a builder sees all of it.
 ghost use Rattle.std.specs.Prelude.{◌≡◌, ◌≤◌, ◌+◌, ℕ, true, false, max, None, IfOk, IfErr};
-ghost use Rattle.path_kinds.specs.declared.path.PathKind.TheVariants.{Inductive};
 ghost use Rattle.search_graph.specs.Below.{frames_within, HasGraph, IsCaused, IsPlainTo, IsPlainValue, IsProved, IsRefuted, KeepsBuilder, Memory, verdicts};
 ghost use Rattle.search_graph.specs.Called.{HasRun};
 ghost use Rattle.search_graph.specs.Calls.{KeepsAll};
@@ -10,7 +9,6 @@ use super::SearchGraph;
 use super::evaluate::work_out;
 use crate::law::{is_sound, keeps_laws};
 use global_cache::GlobalCache;
-use path_kinds::path::PathKind;
 use run_records::runs::Fate;
 use search_context::context::{Answer, Cx, Delegate, Fault};
 use search_stack::depth::AvailableDepth;
@@ -57,7 +55,6 @@ impl<D: Delegate> SearchGraph<D> {
 
         // What the call did, move by move, on a graph that it left so. The laws (`search_graph::law`) say what follows.
         ensures ran { (left : Graph) × HasRun D.Delegate D.Cx.Cx D.Cx.Input.eq D.Cx.Result.eq (record {
-          kind = Inductive;
           goal = input;
           noop = D.noop inspect.old;
           looks_up = false;
@@ -83,10 +80,8 @@ impl<D: Delegate> SearchGraph<D> {
         let depth = AvailableDepth(root_depth);
         let drafts = Drafts::new(cache.allocator(), cache);
         let mut evaluation = Evaluation::<D>::new(cache.allocator(), depth, false, drafts);
-        // Which step asks the first goal of a call is used nowhere.
-        let step_kind = PathKind::Inductive;
         let fate = Fate::NotStored;
-        let answer = work_out::<D>(&mut evaluation, cache, step_kind, input, fate, inspect);
+        let answer = work_out::<D>(&mut evaluation, cache, input, fate, None, inspect);
         is_sound(cache);
         answer
     }

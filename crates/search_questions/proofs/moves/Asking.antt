@@ -1,11 +1,11 @@
 -- A question leads on, whatever it comes to, and all stays right.
-use Rattle.std.proofs.Common.{◌≡◌, ◌<◌, ◌≤◌, ◌+◌, ℕ, Bool, true, false, List, ◌∷◌, ◌++◌, [], length, map, reverse, None, Some, get_or, inl, inr, refl, sym, subst, arith}
+use Rattle.std.proofs.Common.{◌≡◌, ◌<◌, ◌≤◌, ℕ, Bool, true, false, List, ◌∷◌, ◌++◌, [], length, map, reverse, None, get_or, inl, inr, refl, sym, subst, arith}
 use Rattle.std.specs.Option.{option_and_then}
 use Rattle.std.proofs.lemmas.List.{length-map, length-reverse}
 use Rattle.std.proofs.lemmas.Option.{get_or_from_slice_get, slice_get_within}
 use Rattle.search_questions.specs.Below.{DelegateOf, CxOf, Evaluate, Received, Answer, Begin, Cache, IsNeither, IsCycleResult, CacheNode, AvailableDepth, first_entry, open_node, PathKind, OpenGoal, StackEntry, Memory, path_kind_from, IsDefinite, verdicts, AreFree, AreJustified, AreReady, bound, Call, CallMeetsNone, depth_below, first_run, HasAsked, HasStopped, IsCounted, KeepsStore, IsFit, IsReady, limits, newest, NewestAsks, Pushes, runs_of, seen, Stood, GoesOnWith, IsRight, IsRightFor, Requests, StopsWith}
 use Rattle.search_state.specs.declared.evaluation.Evaluation.{Evaluation}
-use Rattle.search_questions.specs.Words.{AskingLeadsTo, asking, ByEntry, ByStored, OverCycle, Pushed, question_depth, Refused}
+use Rattle.search_questions.specs.Words.{AskingFails, AskingLeadsTo, asking, ByEntry, ByStored, NotAnsweredAt, NotRefused, OverCycle, Pushed, question_depth, Refused}
 use Rattle.search_rules.proofs.justified.Finishing.{answered_newest_is_justified, begin_fits, neither_fits, overflow_noted_is_justified, pushed_goal_is_justified, stored_taken_same}
 use Rattle.lean_runs.proofs.Verdicts.{neither_is}
 use Rattle.search_rules.proofs.moves.Questions.{ask_in_cycle, ask_provisional, ask_pushes, ask_refused, ask_stops, ask_stored, enclosed_refuses_none, refused_at}
@@ -63,7 +63,7 @@ module _ {D C V P F I R A T : Type 0} (G : DelegateOf D C V P F I R A T) (X : Cx
     goes_on = ask_in_cycle G X cx call ahead kind goal starts e.limits_met more depth same exact sorts received head e.goals goals at found closes h.asked;
     answers = h.answers;
   }
-  asked_goes_on more exact own sorts noop received new after later (Pushed depth goals nodes now at none not_stored absent pushes fates fated one counted) ready call ahead h = record {
+  asked_goes_on more exact own sorts noop received new after later (Pushed depth goals held nodes now at none not_stored absent pushes fates holds fated one counted) ready call ahead h = record {
     goes_on = ask_pushes G X cx call ahead kind goal starts e.limits_met more depth e.goals goals later at (not_among G X cx call same own goal e.goals absent) one counted pushes h.asked;
     answers = h.answers;
   }
@@ -82,23 +82,16 @@ module _ {D C V P F I R A T : Type 0} (G : DelegateOf D C V P F I R A T) (X : Cx
         decided = λ decisive unmet. tt;
       }
 
-  pub refused_stops :
-      (goals : List (OpenGoal C F I R A T)) → None ≡ question_depth G e
-      → (call : Call I) (ahead : ℕ) → Requests G X same cx (Evaluate kind goal) call ahead old e starts → StopsWith G X same cx call Memory old (record e { goals = goals; limits_met = true }) starts
-  refused_stops goals none call ahead h = record {
+  -- and where memory is out the call ends
+  pub asking_stops :
+      2 ≤ G.DIVIDE_AVAILABLE_DEPTH_ON_OVERFLOW → {new : Cache C I R A T} {after : Evaluation D C V P F I R A T} {later : ℕ} → AskingFails G old e starts new after later
+      → (call : Call I) (ahead : ℕ) → Requests G X same cx (Evaluate kind goal) call ahead old e starts → StopsWith G X same cx call Memory new after later
+  asking_stops more (NotRefused goals none) call ahead h = record {
     stopped = refused_stops_at e.goals none call ahead h.asked;
     store = refused_keeps none call ahead h;
   }
-
-  -- a goal that could not be pushed ends the call
-  pub push_stops :
-      2 ≤ G.DIVIDE_AVAILABLE_DEPTH_ON_OVERFLOW → (depth : AvailableDepth) → Some depth.0 ≡ question_depth G e
-      → (new : Cache C I R A T) (after : Evaluation D C V P F I R A T) (later : ℕ) → new ≡ record old { nodes = new.nodes } → after ≡ record e { goals = after.goals } → starts ≤ later → later ≤ starts + 1
-      → (call : Call I) (ahead : ℕ) → Requests G X same cx (Evaluate kind goal) call ahead old e starts → StopsWith G X same cx call Memory new after later
-  push_stops more depth at new after later is_new is_after least most call ahead h =
-      subst (λ c. StopsWith G X same cx call Memory c after later) (sym is_new)
-      (subst (λ a. StopsWith G X same cx call Memory (record old { nodes = new.nodes }) a later) (sym is_after)
-      (record { stopped = ask_stops G X cx call ahead kind goal starts e.limits_met more depth e.goals later at least most h.asked; store = h.answers.store }))
+  asking_stops more (NotAnsweredAt depth goals held nodes later at least most) call ahead h =
+      record { stopped = ask_stops G X cx call ahead kind goal starts e.limits_met more depth e.goals later at least most h.asked; store = h.answers.store }
 
   -- ---- all stays right
 
@@ -111,9 +104,9 @@ module _ {D C V P F I R A T : Type 0} (G : DelegateOf D C V P F I R A T) (X : Cx
 
   -- a goal that was pushed
   pub pushed_right :
-      (depth : AvailableDepth) (goals : List (OpenGoal C F I R A T)) (nodes : List (CacheNode I R)) → Pushes G X cx goal kind depth old.nodes nodes e.goals goals
-      → NewestAsks (runs_of e.goals) kind goal → IsRight G X same cx old e → IsRightFor G X same cx (record { reply = Begin; node = None }) (record old { nodes = nodes }) (record e { goals = goals })
-  pushed_right depth goals nodes pushes asks h =
+      (depth : AvailableDepth) (goals : List (OpenGoal C F I R A T)) (held : List V) (nodes : List (CacheNode I R)) → Pushes G X cx goal kind depth old.nodes nodes e.goals goals
+      → NewestAsks (runs_of e.goals) kind goal → IsRight G X same cx old e → IsRightFor G X same cx (record { reply = Begin; node = None }) (record old { nodes = nodes }) (record e { goals = goals; scopes = held })
+  pushed_right depth goals held nodes pushes asks h =
       record {
         right = record {
           justified = carried depth goals nodes pushes (λ cs gs. AreJustified (verdicts X) cs (runs_of gs))
@@ -172,5 +165,5 @@ module _ {D C V P F I R A T : Type 0} (G : DelegateOf D C V P F I R A T) (X : Cx
             (cycle_fits (verdicts X) old.nodes e.goals goals kind (path_kind_from stack head.0 kind) head goal closes.entry (head_is (verdicts X) e.goals head.0 closes.entry within e_is) closes.of_goal
             refl (G.initial_result cx (path_kind_from stack head.0 kind) goal) (sorts (path_kind_from stack head.0 kind) goal) asks closes.takes h.justified);
       }
-  asked_right neither sorts noop received new after later (Pushed depth goals nodes now at none not_stored absent pushes fates fated one counted) asks h =
-      pushed_right depth goals nodes pushes asks h
+  asked_right neither sorts noop received new after later (Pushed depth goals held nodes now at none not_stored absent pushes fates holds fated one counted) asks h =
+      pushed_right depth goals held nodes pushes asks h

@@ -10,8 +10,8 @@ use Rattle.graph_nodes.specs.Collected.{AreLive, Collected}
 use Rattle.global_cache.specs.Rooted.{AreRooted}
 use Rattle.search_context.specs.Graph.{IsWalk}
 use Rattle.search_context.specs.declared.context.Edge.{Edge}
-use Rattle.search_state.proofs.nodes.Noting.{noted_cases, of_stored_stays, still_noted, target_is_noted}
-use Rattle.search_questions.specs.Below.{AreFree, Cache, CacheNode, CxOf, DelegateOf, entries_at, graph_nodes_of, HasEdge, HasGraph, IsReached, NodeId, ProvisionalCacheEntry, Received, run_of, runs_of, Store, OpenGoal, StoredResult, verdicts, AreNotedNodes, IsOfStored, noted, IsRight, IsRightFor}
+use Rattle.search_state.proofs.nodes.Noting.{noted_cases, still_noted, target_is_noted}
+use Rattle.search_questions.specs.Below.{AreFree, Cache, CacheNode, CxOf, DelegateOf, entries_at, graph_nodes_of, HasEdge, HasGraph, IsReached, NodeId, ProvisionalCacheEntry, Received, run_of, runs_of, Store, OpenGoal, StoredResult, verdicts, AreNotedNodes, noted, IsRight, IsRightFor}
 use Rattle.search_questions.specs.Collecting.{HasRoots, LetsGo, LetsGoAtEnd}
 use Rattle.search_state.specs.declared.evaluation.Evaluation.{Evaluation}
 use Rattle.search_rules.specs.Live.{AreLiveResults, AreLiveRuns, IsLiveNode, IsLiveRun}
@@ -125,7 +125,7 @@ module _ {D C V P F I R A T : Type 0} (same : I → I → Bool) (e : Evaluation 
 
   module _ (old : Cache C I R A T) (roots : List NodeId) (noted_are : AreNotedNodes same old e.drafts) where
     pub rooted_among : ((n : NodeId) → Contains (noted target e.drafts.stored.items) n → Contains roots n) → AreRooted same e.drafts.first roots old.results
-    rooted_among among goal place s at = at_node s.node (noted_are.rooted goal place s at)
+    rooted_among among goal place s at = at_node s.node (noted_are goal place s at)
       where
         at_node : (node : Option NodeId) → IfSome node (λ n. (n.0 < e.drafts.first) ⊎ Contains e.drafts.stored.items n) → IfSome node (λ n. (n.0 < e.drafts.first) ⊎ Contains roots n)
         at_node None h = tt
@@ -162,11 +162,8 @@ module _ {D C V P F I R A T : Type 0} (same : I → I → Bool) (e : Evaluation 
           ];
         }
       where
-        root_is : (root : NodeId) → Contains roots root → (target ≡ Some root) ⊎ IsOfStored same new root.0
-        root_is root has = elim (noted_cases target e.drafts.stored.items root (subst (λ l. Contains l root) exactly has)) [
-          | inl answer ↦ inl answer
-          | inr stored ↦ inr (of_stored_stays same old new root.0 (ap (λ cache. cache.results) is) (collected.same root.0 (are.rooted root has)) (noted_are.of_stored root stored))
-        ]
+        root_is : (root : NodeId) → Contains roots root → (target ≡ Some root) ⊎ Contains e.drafts.stored.items root
+        root_is root has = noted_cases target e.drafts.stored.items root (subst (λ l. Contains l root) exactly has)
 
   -- whether there was memory or not
   module _ (old new : Cache C I R A T) (roots : List NodeId) (noted_are : AreNotedNodes same old e.drafts) (is : new ≡ record old { nodes = new.nodes }) (earlier : (at : ℕ) → at < e.drafts.first → slice_get new.nodes at ≡ slice_get old.nodes at) where
@@ -180,7 +177,7 @@ module _ {D C V P F I R A T : Type 0} (same : I → I → Bool) (e : Evaluation 
 
 -- the same once the goals and the entries were let go
 pub gives_up :
-    {D C V P F I R A T E : Type 0} (same : I → I → Bool) (e after : Evaluation D C V P F I R A T) (target : Option NodeId) (old new : Cache C I R A T) (result : Result (Unit {0}) E) → after ≡ record e { goals = []; provisional = [] }
+    {D C V P F I R A T E : Type 0} (same : I → I → Bool) (e after : Evaluation D C V P F I R A T) (target : Option NodeId) (old new : Cache C I R A T) (result : Result (Unit {0}) E) → after ≡ record e { goals = []; scopes = []; provisional = [] }
     → OnOk result (LetsGoAtEnd same after target old new) → OnOk result (LetsGoAtEnd same e target old new)
 gives_up same e after target old new (Err fault) is h = tt
 gives_up same e after target old new (Ok u) is h =
@@ -204,10 +201,7 @@ module _ {D C V P F I R A T : Type 0} (G : DelegateOf D C V P F I R A T) (X : Cx
     }
 
     pub noted_stay : AreNotedNodes same old e.drafts → AreNotedNodes same new e.drafts
-    noted_stay h = record {
-      rooted = subst (AreRooted same e.drafts.first e.drafts.stored.items) (sym same_results) h.rooted;
-      of_stored = λ node has. of_stored_stays same old new node.0 same_results (goes.collected.same node.0 (goes.noted_are node has)) (h.of_stored node has);
-    }
+    noted_stay h = subst (AreRooted same e.drafts.first e.drafts.stored.items) (sym same_results) h
 
   module _ (received : Received R) (goes : LetsGo same e received.node old new) where
     pub right_for_stays : IsRightFor G X same cx received old e → IsRightFor G X same cx received new e

@@ -4,11 +4,12 @@ ghost use Rattle.answer_lines.specs.Types.{line_told};
 ghost use Rattle.line_texts.specs.Writing.{AppendsBeginning, Passes};
 ghost use Rattle.structural_types.specs.Asked.{declared_in};
 ghost use Rattle.type_order.specs.Subtypes.{forms_of};
-ghost use Rattle.subtypes.specs.Answers.{AreAllTold, AreFirstTold, IsTold, name_of};
+ghost use Rattle.subtypes.specs.Answers.{AreAllTold, AreFirstTold, IsTold};
+ghost use Rattle.type_texts.specs.Reasons.{name_of};
 ghost use Rattle.type_texts.specs.Table.{forms_in};
 
-use crate::program::Stop;
 use crate::program::reason::reason_of;
+use crate::program::stop::Stop;
 use answer_lines::types::{Told, write_line};
 use delegate_parts::Outcome;
 use line_texts::{Flush, write_bytes};
@@ -66,17 +67,22 @@ fn ask<T: LendsTypes>(
     table: &TypeTable,
     pair: Pair,
 ) -> Result<Told, Fault<Pair, Outcome>>
-    ensures told { IfOk result (IsTold (declared_in T.types_of subtyping.old) pair) }
+    requires of_these { declared_in T.types_of subtyping.old ≡ forms_in table.now }
+    ensures told { IfOk result (IsTold table.now pair) }
     ensures same_types { declared_in T.types_of subtyping.new
         ≡ declared_in T.types_of subtyping.old }
 {
-    let is_below = subtyping.is_below(pair.left, pair.right)?;
-    let reason = if is_below {
-        Vec::new(alloc)
-    } else {
-        reason_of(alloc, subtyping, table, pair)?
-    };
-    Ok(Told { is_below, reason })
+    if subtyping.is_below(pair.left, pair.right)? {
+        return Ok(Told {
+            is_below: true,
+            reason: Vec::new(alloc),
+        });
+    }
+    let reason = reason_of(alloc, subtyping, table, pair)?;
+    Ok(Told {
+        is_below: false,
+        reason,
+    })
 }
 
 // The line waits, until there are enough to be written.

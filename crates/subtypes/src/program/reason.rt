@@ -1,15 +1,20 @@
 //! Why a type is not below another: a shortest way from the pair to one that fails by itself.
-ghost use Rattle.std.specs.Prelude.{◌≡◌};
+ghost use Rattle.std.specs.Prelude.{◌≡◌, ◌<◌, Contains, IfOk, OnOk};
 ghost use Rattle.structural_types.specs.Asked.{declared_in};
+ghost use Rattle.subtypes.specs.Search.{AreCovered, ComesFrom, GoesOn, IsAt, IsSearch, count_in, types_in};
+ghost use Rattle.type_order.specs.Rule.{NeedsAll, pairs_of};
+ghost use Rattle.type_order.specs.Subtypes.{IsBelow, forms_of};
+ghost use Rattle.type_texts.specs.Reasons.{Fails, IsReason, Leads};
+ghost use Rattle.type_texts.specs.Table.{forms_in};
 
 use delegate_parts::Outcome;
 use search_parts::context::{Fault, NoMemory};
 use std::alloc::Global;
 use std::collections::HashSet;
 use structural_types::Subtyping;
-use type_order::{Field, Form, LendsTypes, Pair, Types};
+use type_order::{LendsTypes, Pair, Types};
 use type_texts::TypeTable;
-use type_texts::reasons::{Step, end_of, part_of, write_end, write_way};
+use type_texts::reasons::{End, Step, end_of, step_at, write_end, write_way};
 
 /// A pair of which the left type is not below the right one, and the step by which it was found.
 #[derive(Clone, Copy)]
@@ -21,7 +26,8 @@ struct Found {
 
 /// The pairs that were found, the nearest first.
 #[derive(Drop)]
-struct Search {
+struct Search<'a> {
+    types: &'a Types,
     found: Vec<Found>,
     seen: HashSet<Pair>,
 }
@@ -33,29 +39,36 @@ pub(super) fn reason_of<T: LendsTypes>(
     table: &TypeTable,
     pair: Pair,
 ) -> Result<Vec<u8>, Fault<Pair, Outcome>>
-    ensures { declared_in T.types_of subtyping.new ≡ declared_in T.types_of subtyping.old }
+    requires same_types { declared_in T.types_of subtyping.old ≡ forms_in table.now }
+    requires not_below { IsBelow (forms_in table.now) pair.left pair.right → ⊥ }
+    ensures reason { IfOk result (λ reason. IsReason table.now pair reason.items) }
+    ensures same_types { declared_in T.types_of subtyping.new
+        ≡ declared_in T.types_of subtyping.old }
 {
-    let mut search = Search::new(alloc, pair)?;
+    let mut search = Search::new(alloc, table.types(), pair)?;
     for place in 0..usize::MAX {
         let Some(found) = search.found.get(place).copied() else {
             break;
         };
-        if let Some(end) = end_of(table.types(), found.pair) {
-            let mut text = Vec::new(alloc);
-            let way = search.way_to(alloc, place)?;
-            write_way(&mut text, table, way.as_slice())?;
-            write_end(&mut text, table, found.pair, end)?;
-            return Ok(text);
+        if let Some(end) = end_of(search.types, found.pair) {
+            return Ok(search.told(alloc, table, place, found.pair, end)?);
         }
-        search.follow(subtyping, table.types(), place, found.pair)?;
+        search.follow(subtyping, place, found.pair)?;
     }
+    // It does not come to this: then all that was found would be below.
     Ok(Vec::new(alloc))
 }
 
-impl Search {
+impl<'a> Search<'a> {
     // The search from this pair.
-    fn new(alloc: Global, pair: Pair) -> Result<Search, NoMemory> {
+    fn new(alloc: Global, types: &'a Types, pair: Pair) -> Result<Search<'a>, NoMemory>
+        requires not_below { IsBelow (forms_of types.now) pair.left pair.right → ⊥ }
+        ensures ongoing { IfOk result (λ search. IsSearch search) }
+        ensures first { IfOk result (λ search. IsAt search 0 pair) }
+        ensures types { IfOk result (λ search. types_in search ≡ forms_of types.now) }
+    {
         let mut search = Search {
+            types,
             found: Vec::new(alloc),
             seen: HashSet::new(alloc),
         };
@@ -64,69 +77,41 @@ impl Search {
     }
 
     // Notes a pair that is not below.
-    fn note(&mut self, pair: Pair, from: usize, step: Step) -> Result<(), NoMemory> {
+    fn note(&mut self, pair: Pair, from: usize, step: Step) -> Result<(), NoMemory>
+        requires ongoing { IsSearch self.old }
+        requires not_below { IsBelow (types_in self.old) pair.left pair.right → ⊥ }
+        requires linked { 0 < count_in self.old → ComesFrom self.old pair from step }
+        ensures ongoing { OnOk result (IsSearch self.new) }
+        ensures goes_on { OnOk result (GoesOn self.old self.new) }
+        ensures noted { OnOk result (IsAt self.new (count_in self.old) pair) }
+    {
         self.seen.insert(pair)?;
         self.found.push(Found { pair, from, step })?;
         Ok(())
     }
 
-    // Looks at the parts of a pair that was found.
+    // Looks at what is asked for a pair that was found, all of which is needed.
     fn follow<T: LendsTypes>(
         &mut self,
         subtyping: &mut Subtyping<T>,
-        types: &Types,
         place: usize,
         pair: Pair,
     ) -> Result<(), Fault<Pair, Outcome>>
-        ensures { declared_in T.types_of subtyping.new ≡ declared_in T.types_of subtyping.old }
+        requires ongoing { IsSearch self.old }
+        requires at { IsAt self.old place pair }
+        requires of_these { declared_in T.types_of subtyping.old ≡ types_in self.old }
+        requires all { NeedsAll (types_in self.old) pair }
+        ensures ongoing { OnOk result (IsSearch self.new) }
+        ensures goes_on { OnOk result (GoesOn self.old self.new) }
+        ensures covered { OnOk result
+            (AreCovered self.new (Contains (pairs_of (types_in self.old) pair))) }
+        ensures same_types { declared_in T.types_of subtyping.new
+            ≡ declared_in T.types_of subtyping.old }
     {
-        match (types.form(pair.left), types.form(pair.right)) {
-            (Some(Form::Union(alternatives)), _) => {
-                for left in alternatives {
-                    let part = Pair {
-                        left: *left,
-                        ..pair
-                    };
-                    self.look_at(subtyping, part, place, Step::Alternative)?;
-                }
-            }
-            (Some(Form::Function(a, b)), Some(Form::Function(c, d))) => {
-                let arguments = Pair {
-                    left: *c,
-                    right: *a,
-                };
-                self.look_at(subtyping, arguments, place, Step::Argument)?;
-                let results = Pair {
-                    left: *b,
-                    right: *d,
-                };
-                self.look_at(subtyping, results, place, Step::Result)?;
-            }
-            (Some(Form::Record(fields)), Some(Form::Record(others))) => {
-                self.follow_fields(subtyping, fields.as_slice(), others.as_slice(), place)?;
-            }
-            _ => {}
-        }
-        Ok(())
-    }
-
-    // Looks at the fields of the right record, each of which the left one has.
-    fn follow_fields<T: LendsTypes>(
-        &mut self,
-        subtyping: &mut Subtyping<T>,
-        fields: &[Field],
-        others: &[Field],
-        place: usize,
-    ) -> Result<(), Fault<Pair, Outcome>>
-        ensures { declared_in T.types_of subtyping.new ≡ declared_in T.types_of subtyping.old }
-    {
-        for other in others {
-            if let Some(left) = part_of(fields, other.name) {
-                let part = Pair {
-                    left,
-                    right: other.part,
-                };
-                self.look_at(subtyping, part, place, Step::Field(other.name))?;
+        let types = self.types;
+        for asked in 0..types.asked_count(pair) {
+            if let Some(part) = types.asked(pair, asked) {
+                self.look_at(subtyping, part, place, step_at(types, pair, asked))?;
             }
         }
         Ok(())
@@ -140,7 +125,14 @@ impl Search {
         from: usize,
         step: Step,
     ) -> Result<(), Fault<Pair, Outcome>>
-        ensures { declared_in T.types_of subtyping.new ≡ declared_in T.types_of subtyping.old }
+        requires ongoing { IsSearch self.old }
+        requires linked { ComesFrom self.old pair from step }
+        requires of_these { declared_in T.types_of subtyping.old ≡ types_in self.old }
+        ensures ongoing { OnOk result (IsSearch self.new) }
+        ensures goes_on { OnOk result (GoesOn self.old self.new) }
+        ensures covered { OnOk result (AreCovered self.new (λ part. part ≡ pair)) }
+        ensures same_types { declared_in T.types_of subtyping.new
+            ≡ declared_in T.types_of subtyping.old }
     {
         if self.seen.contains(&pair) {
             return Ok(());
@@ -151,20 +143,44 @@ impl Search {
         Ok(())
     }
 
-    // The steps to the pair at this place, the first one last.
-    fn way_to(&self, alloc: Global, place: usize) -> Result<Vec<Step>, NoMemory> {
+    // The text of a reason: how the pair at this place fails, and the steps to it.
+    fn told(
+        &self,
+        alloc: Global,
+        table: &TypeTable,
+        place: usize,
+        pair: Pair,
+        end: End,
+    ) -> Result<Vec<u8>, NoMemory>
+        requires ongoing { IsSearch self.now }
+        requires of_these { types_in self.now ≡ forms_in table.now }
+        requires at { IsAt self.now place pair }
+        requires fails { Fails (types_in self.now) end pair }
+        ensures { (first : Pair) → IsAt self.now 0 first →
+            IfOk result (λ text. IsReason table.now first text.items) }
+    {
+        let mut text = Vec::new(alloc);
+        let way = self.way_to(alloc, place)?;
+        write_way(&mut text, table, way.as_slice())?;
+        write_end(&mut text, table, pair, end)?;
+        Ok(text)
+    }
+
+    // The steps to the pair at this place.
+    fn way_to(&self, alloc: Global, place: usize) -> Result<Vec<Step>, NoMemory>
+        requires ongoing { IsSearch self.now }
+        requires within { place < count_in self.now }
+        ensures { (first last : Pair) → IsAt self.now 0 first → IsAt self.now place last →
+            IfOk result (λ way. Leads (types_in self.now) way.items first last) }
+    {
         let mut way = Vec::new(alloc);
         let mut at = place;
-        for _ in 0..place {
-            let Some(found) = self.found.get(at).copied() else {
-                break;
-            };
-            if at == 0 {
-                break;
-            }
+        while at > 0 {
+            let found = self.found[at];
             way.push(found.step)?;
             at = found.from;
         }
+        way.reverse();
         Ok(way)
     }
 }

@@ -2,7 +2,7 @@
 ghost use Rattle.std.specs.Prelude.{◌≡◌, ◌≢◌, ◌⊎◌, ◌++◌, IfErr, IfOk, OnErr, OnOk};
 ghost use Rattle.answer_lines.specs.Goals.{line_told};
 ghost use Rattle.table_runs.specs.Answers.{AreAllTold, AreCountedStarts, AreFirstTold, IsAnswered};
-ghost use Rattle.table_runs.specs.Below.{HasGraph, IsSoundCache, verdicts};
+ghost use Rattle.table_runs.specs.Below.{HasGraph, verdicts};
 ghost use Rattle.line_texts.specs.Writing.{AppendsBeginning, Passes};
 ghost use Rattle.table_runs.specs.Right.{AreShown, IsRightOutcome, SomeGraphShows};
 ghost use Rattle.table_runs.specs.Told.{IsChecked, is_fine};
@@ -13,6 +13,7 @@ use delegate_parts::{Builder, Outcome};
 use line_texts::{Flush, write_bytes};
 use rule_tables::{Goal, Rules, Stop};
 use search_graph::graph::SearchGraph;
+use search_graph::law::is_sound;
 use search_graph::law::limits::price;
 use search_parts::context::{Answer, Cx, Delegate, Fault, NoMemory};
 use search_parts::global_cache::GlobalCache;
@@ -77,14 +78,6 @@ where
     write_bytes(out, waiting.as_slice())?;
     out.flush_all()?;
     Ok(all_fine)
-}
-
-// Each finished node is a run of its goal, and each stored result has its graph.
-fn is_sound<D: Delegate>(cache: &GlobalCache<D>)
-    ensures { IsSoundCache D.Cx.Input.eq (verdicts D.Cx.Cx) D.script cache.now }
-{
-    cache.has_runs();
-    cache.has_sound_results();
 }
 
 // Whether no fault was met, and no graph refused.

@@ -1,17 +1,18 @@
 //! How questions are answered, and shown.
 ghost use Rattle.std.specs.Prelude.{◌≡◌, ◌⊎◌, ◌++◌, IfErr, IfOk, OnErr, OnOk};
-ghost use Rattle.trees.specs.Shown.{AreAllShown, AreFirstShown, IsTreeShown, tree_words};
+ghost use Rattle.trees.specs.Shown.{AreAllShown, AreFirstShown, IsTreeShown, doubt_words, tree_words};
 
 use answer_lines::trees::write_answer;
 use delegate_parts::{Builder, Outcome};
 use line_texts::{Flush, write_bytes};
-use proof_trees::{Recorder, Words, write_entries};
+use proof_trees::{Recorder, Words, is_whole, write_entries};
 use rule_tables::{Goal, Rules, Stop};
 use search_graph::graph::SearchGraph;
 use search_parts::context::{Answer, Cx, Delegate, Fault};
 use search_parts::global_cache::GlobalCache;
 use std::alloc::Global;
 use std::io;
+use std::io::Write;
 use table_words::TableWords;
 
 /// Works out each question on its own, and writes its tree, what it came to, and an empty line. The result is whether none
@@ -82,7 +83,8 @@ where
     }
 }
 
-// Appends the tree that was recorded, what the goal came to, and an empty line.
+// Appends the tree that was recorded, with a line that says so where an answered goal's entries are no whole one, what the goal
+// came to, and an empty line.
 fn write_tree(
     text: &mut Vec<u8>,
     rules: &Rules,
@@ -95,7 +97,23 @@ fn write_tree(
 {
     let words = TableWords { rules };
     write_entries(text, &words, recorder.entries())?;
+    text.write_all(doubt(recorder, goal, came))?;
     words.write_goal(text, goal)?;
     write_answer(text, came, recorder.inner().started())?;
     Ok(())
+}
+
+// What is written where the entries of a goal that was answered are no whole tree. No search comes to that.
+fn doubt(
+    recorder: &Recorder<Builder, Goal, Outcome>,
+    goal: Goal,
+    came: Result<Answer<Outcome>, Fault<Goal, Outcome>>,
+) -> &'static [u8]
+    ensures { result.now ≡ doubt_words goal (record { recorder = recorder.now; came = came }) }
+{
+    if came.is_ok() && !is_whole(recorder.entries(), goal) {
+        b"these entries are no tree\n"
+    } else {
+        b""
+    }
 }

@@ -8,13 +8,13 @@ use Rattle.open_graphs.proofs.Members.{contains_later}
 use Rattle.cycle_heads.proofs.HeadLists.{at_depth-rest}
 use Rattle.goal_changes.specs.Candidates.{less_head}
 use Rattle.goal_changes.specs.NestedGoals.{NestsItself}
+use Rattle.search_graph.specs.Reaching.{AsksNewest, here}
 use Rattle.two_runs.specs.Below.{AnswersNewest, at_depth, CxOf, CycleHead, DelegateOf, Done, EnterCandidate, enters, entries_at, EntryState, Evaluate, EvaluationResult, FinishCandidate, finishes, HasStepped, Heads, HeadUsages, Hit, Ignore, Lists, may_be_used, NestedPaths, NestsAnswer, NestsHead, NotesCandidate, OpenGoal, PathKind, paths_at, place_of, ProvisionalCacheEntry, RebaseReason, Received, received_by, Reply, Request, requested, rerun_with, StackDepth, StackEntry, Store, stored_at, stored_from, StoredResult, Success, TakesStored, with_no_record}
 use Rattle.search_rules.specs.LookUp.{usable_entry}
 use Rattle.search_rules.specs.Moves.{Reruns}
 use Rattle.search_rules.specs.Results.{NotStored, Put, StoresAnswer}
 use Rattle.search_rules.specs.Words.{RebasesEntries}
-use Rattle.two_runs.specs.OneKind.{here}
-use Rattle.two_runs.specs.Kinds.{AreJoined, AsksNewest, EntriesSuit, EntryIsLinked, IsGoalAt, IsJoinedTo, KeepsKinds, ReachesNested, StoredReachNested}
+use Rattle.two_runs.specs.Kinds.{AreJoined, EntriesSuit, EntryIsLinked, IsGoalAt, IsJoinedTo, KeepsKinds, ReachesNested, StoredReachNested}
 use Rattle.two_runs.proofs.kinds.PoppedEntries.{disabled_popped, entries_popped}
 use Rattle.two_runs.proofs.kinds.Stack.{at_read, stack_of}
 use Rattle.two_runs.proofs.kinds.TakenAnswers.{answered_linked, at_changed, cycled_linked, entries_kept, newest_linked, provisional_linked, stored_at_places, stored_linked, taken_at}

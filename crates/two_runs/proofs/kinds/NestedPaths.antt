@@ -8,9 +8,10 @@ use Rattle.path_kinds.proofs.PathLaws.{extended-kinds, has_kind-union}
 use Rattle.path_kinds.proofs.PathMembers.{extended-has}
 use Rattle.path_kinds.proofs.PathRanks.{each_kind}
 use Rattle.goal_changes.specs.NestedGoals.{Joined, Nothing, TakesHeadGoal, TakesNestedGoals}
+use Rattle.search_graph.specs.Reaching.{MayAsk}
 use Rattle.two_runs.specs.Below.{extended, greater_kind, has_kind, Inductive, kinds_in, NestedPaths, path_of_no_step, PathKind, paths_at, paths_of, PathsToNested, Reply, Request, union}
 use Rattle.two_runs.specs.Kinds.{IsReachedBy, ReachesNested}
-use Rattle.two_runs.specs.OneKind.{first, last, MayAsk, MayLeadTo}
+use Rattle.two_runs.specs.OneKind.{first, last, MayLeadTo}
 use Rattle.goal_paths.specs.Nested.{joined_paths, JoinsPaths}
 use Rattle.two_runs.proofs.kinds.Questions.{greater_least}
 

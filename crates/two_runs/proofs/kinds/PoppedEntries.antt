@@ -5,12 +5,14 @@ use Rattle.std.specs.List.{filter_map}
 use Rattle.std.proofs.lemmas.Bool.{cases_eq, false≢true}
 use Rattle.std.proofs.lemmas.List.Elements.{All-append, All-cons, All-nil}
 use Rattle.provisional_cache.proofs.RebasedEntryLists.{All-filter_map}
+use Rattle.search_graph.specs.Reaching.{here, MayReach}
 use Rattle.two_runs.specs.Below.{Ambiguity, at_depth, but_highest, changed_for, CycleHead, entries_at, extended_by_each, has_usages, Heads, HeadUsages, highest, IsLeftHead, IsRising, Lists, no_usages, NoCycleUsages, NodeId, OpenGoal, other_usages, Overflow, path_kind_from, path_of_no_step, PathsToNested, ProvisionalCacheEntry, ReachedFixpoint, rebased, RebaseReason, Reply, Request, StackDepth, with_unused, with_used}
 use Rattle.search_rules.specs.Words.{depths_of, entries_for, entry_of, final_answer, LieBelow, rebased_for, RebasesEntries}
-use Rattle.two_runs.specs.OneKind.{AsksByOneKind, here, MayLeadTo, MayReach}
+use Rattle.two_runs.specs.OneKind.{AsksByOneKind, MayLeadTo}
 use Rattle.two_runs.specs.Kinds.{AreJoined, AreLinked, AskedByKind, EntriesSuit, EntryIsLinked, IsGoalAt, IsJoinedTo, KeepsKinds}
 use Rattle.search_rules.proofs.rebasing.HeadOrder.{ascends, at_here, at_later, at_most_highest, highest_there, no_highest}
-use Rattle.two_runs.proofs.kinds.Questions.{asked_by_kind_of, greater_same, kind_of_goal, reaches_on}
+use Rattle.two_runs.proofs.kinds.Questions.{asked_by_kind_of, greater_same, kind_of_goal}
+use Rattle.search_graph.proofs.called.Reaching.{reaches_on}
 use Rattle.two_runs.proofs.kinds.Stack.{at_below, at_lies_below, at_newest, many, stack_leads, stack_of}
 use Rattle.two_runs.proofs.kinds.UsedEntries.{HaveHeads}
 use Rattle.search_rules.proofs.rebasing.Cases.{HasNewHead, is_rebased, IsRebased, NotUsed, Still, Used}

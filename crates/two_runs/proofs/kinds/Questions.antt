@@ -1,8 +1,10 @@
 -- Walks of questions and their kinds.
 use Rattle.std.proofs.Common.{◌≡◌, List, sym, ap₂, ◌∙◌, subst, arith}
 use Rattle.path_kinds.proofs.PathRanks.{greater_rank, same_kind}
+use Rattle.search_graph.proofs.called.Reaching.{asked_reached, reaches_on}
+use Rattle.search_graph.specs.Reaching.{here, MayAsk, MayReach, on}
 use Rattle.two_runs.specs.Below.{greater_kind, Inductive, PathKind, Reply, Request}
-use Rattle.two_runs.specs.OneKind.{AsksByOneKind, first, here, last, MayAsk, MayLeadTo, MayReach, on}
+use Rattle.two_runs.specs.OneKind.{AsksByOneKind, first, last, MayLeadTo}
 use Rattle.two_runs.specs.Kinds.{AskedByKind}
 
 -- ---- the greater of kinds
@@ -25,13 +27,6 @@ greater_same k l kind one other = ap₂ greater_kind one other ∙ greater_self 
 module _ {I R : Type 0} (scripts : I → List (Reply R) → Request I R) where
   -- ---- walks
 
-  pub reaches_on : {x y z : I} → MayReach scripts x y → MayReach scripts y z → MayReach scripts x z
-  reaches_on here then = then
-  reaches_on (on asks rest) then = on asks (reaches_on rest then)
-
-  pub asked_reached : {x y : I} {kind : PathKind} → MayAsk scripts x kind y → MayReach scripts x y
-  asked_reached asks = on asks here
-
   pub leads_reaches : {x y : I} {kind : PathKind} → MayLeadTo scripts x kind y → MayReach scripts x y
   leads_reaches (last asks) = on asks here
   leads_reaches (first asks rest) = on asks (leads_reaches rest)
@@ -45,8 +40,8 @@ module _ {I R : Type 0} (scripts : I → List (Reply R) → Request I R) where
   pub kind_of_goal : {x y : I} {kind : PathKind} (goal : I) (known : PathKind) → AskedByKind scripts goal known → MayLeadTo scripts x kind y → MayReach scripts y goal → MayReach scripts goal x → kind ≡ known
   kind_of_goal goal known by (last {kind = kind} asks) there back = by _ kind _ asks there back
   kind_of_goal goal known by (first {goal = x} {kind = kind} {asked = between} {rest = more} asks rest) there back =
-      let here_is : kind ≡ known = by x kind between asks (reaches_on (leads_reaches rest) there) back in
-      greater_same kind more known here_is (kind_of_goal goal known by rest there (reaches_on back (asked_reached asks)))
+      let here_is : kind ≡ known = by x kind between asks (reaches_on scripts (leads_reaches rest) there) back in
+      greater_same kind more known here_is (kind_of_goal goal known by rest there (reaches_on scripts back (asked_reached scripts asks)))
 
   -- ---- where goals that reach each other ask by one kind
 
@@ -56,9 +51,9 @@ module _ {I R : Type 0} (scripts : I → List (Reply R) → Request I R) where
     kind_of_walk {x} {y} (last {kind = kind} asks) other step asked question back there = one x kind y other step asked asks there question back
     kind_of_walk {x} {y} (first {kind = kind} {asked = between} {rest = more} asks rest) other step asked question back there =
         greater_same kind more step
-        (one x kind between other step asked asks (reaches_on (leads_reaches rest) there) question back)
-        (kind_of_walk rest other step asked question (reaches_on back (asked_reached asks)) there)
+        (one x kind between other step asked asks (reaches_on scripts (leads_reaches rest) there) question back)
+        (kind_of_walk rest other step asked question (reaches_on scripts back (asked_reached scripts asks)) there)
 
     -- and if it is closed over a goal, all closed walks over that have its kind
     pub asked_by_kind_of : {x y : I} {kind : PathKind} (goal : I) → MayLeadTo scripts x kind y → MayReach scripts y goal → MayReach scripts goal x → AskedByKind scripts goal kind
-    asked_by_kind_of goal walk there back = λ other other_kind asked asks comes goes. sym (kind_of_walk walk other other_kind asked asks (reaches_on comes back) (reaches_on there goes))
+    asked_by_kind_of goal walk there back = λ other other_kind asked asks comes goes. sym (kind_of_walk walk other other_kind asked asks (reaches_on scripts comes back) (reaches_on scripts there goes))

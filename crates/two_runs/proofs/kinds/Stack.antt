@@ -3,9 +3,10 @@ use Rattle.std.proofs.Common.{◌≡◌, ℕ, ◌+◌, ◌<◌, Bool, List, [], 
 use Rattle.std.proofs.lemmas.Grind.{reverse_onto}
 use Rattle.std.proofs.lemmas.List.{drop-append-le, drop_all, length-map, length-reverse, map-append}
 use Rattle.open_graphs.proofs.Lists.{get_cases}
+use Rattle.search_graph.specs.Reaching.{AsksNewest, here, MayReach}
 use Rattle.two_runs.specs.Below.{greater_kind, greatest_kind, OpenGoal, path_kind_from, PathKind, Reply, Request, StackEntry}
-use Rattle.two_runs.specs.OneKind.{here, last, MayLeadTo, MayReach}
-use Rattle.two_runs.specs.Kinds.{AreLinked, AsksNewest, IsGoalAt}
+use Rattle.two_runs.specs.OneKind.{last, MayLeadTo}
+use Rattle.two_runs.specs.Kinds.{AreLinked, IsGoalAt}
 use Rattle.goal_paths.proofs.Cycles.{greatest-push}
 use Rattle.two_runs.proofs.kinds.Questions.{greater_least, greater_swapped, leads_on, leads_reaches}
 

@@ -2,13 +2,13 @@
 use Rattle.std.proofs.Common.{◌≡◌, ℕ, ◌==◌, if◌then◌else◌, Bool, true, false, List, ◌∷◌, length, IsSome, Option, None, Some, All, refl, sym, ◌∙◌, subst, ◌⊎◌, inl, inr, eq-eqb}
 use Rattle.std.proofs.lemmas.Bool.{false≢true}
 use Rattle.std.proofs.lemmas.List.Elements.{All-weaker}
+use Rattle.search_graph.specs.Reaching.{AsksNewest, MayAsk}
 use Rattle.two_runs.specs.Below.{AnswersNewest, at_depth, CycleHead, entries_at, EntryState, Heads, Hit, joined_over, Lists, NestedPaths, NestsAnswer, NestsHead, OpenGoal, PathKind, ProvisionalCacheEntry, Reply, Request, TakesStored, with_depth, with_nested_goals}
 use Rattle.goal_changes.specs.Entries.{TakesHeads}
 use Rattle.goal_changes.specs.NestedGoals.{NestsItself}
-use Rattle.two_runs.specs.OneKind.{MayAsk}
-use Rattle.two_runs.specs.Kinds.{AreJoined, AreLinked, AsksNewest, EntryIsLinked, IsGoalAt, IsJoinedTo, ReachesNested}
+use Rattle.two_runs.specs.Kinds.{AreJoined, AreLinked, EntryIsLinked, IsGoalAt, IsJoinedTo, ReachesNested}
 use Rattle.two_runs.proofs.kinds.NestedPaths.{nested_head, nested_itself, nested_taken}
-use Rattle.two_runs.proofs.kinds.Questions.{asked_reached, reaches_on}
+use Rattle.search_graph.proofs.called.Reaching.{asked_reached, reaches_on}
 use Rattle.two_runs.proofs.kinds.Stack.{at_below, stack_reaches}
 
 -- ---- what depends on the goals on the stack alone

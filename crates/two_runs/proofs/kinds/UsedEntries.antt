@@ -7,14 +7,16 @@ use Rattle.std.proofs.lemmas.List.Elements.{All-head}
 use Rattle.std.proofs.lemmas.Map.Views.{Contains-from_lookup}
 use Rattle.path_kinds.proofs.PathLaws.{first_or_later}
 use Rattle.path_kinds.proofs.PathMembers.{extended-has}
+use Rattle.search_graph.specs.Reaching.{AsksNewest, here, MayReach}
 use Rattle.two_runs.specs.Below.{asking_heads, CycleHead, entries_at, extended, has_head_up_to, has_kind, highest, IsRising, Lists, may_be_used, NestedPaths, OpenGoal, path_kind_from, PathKind, paths_at, PathsToNested, ProvisionalCacheEntry, rank_of, Reply, Request, StackDepth, StackEntry}
-use Rattle.two_runs.specs.OneKind.{here, MayLeadTo, MayReach}
-use Rattle.two_runs.specs.Kinds.{AreLinked, AsksNewest, EntryIsLinked, IsJoinedTo, IsReachedBy, KeepsKinds, ReachesNested}
+use Rattle.two_runs.specs.OneKind.{MayLeadTo}
+use Rattle.two_runs.specs.Kinds.{AreLinked, EntryIsLinked, IsJoinedTo, IsReachedBy, KeepsKinds, ReachesNested}
 use Rattle.search_rules.specs.LookUp.{Asking, could_be_used, is_applicable, meets_entry, usable_entry}
 use Rattle.search_rules.specs.Provisional.{EntriesMetNone}
 use Rattle.search_rules.proofs.rebasing.HeadOrder.{ascends, highest_there, no_highest}
 use Rattle.two_runs.proofs.kinds.NestedPaths.{extended_empty}
-use Rattle.two_runs.proofs.kinds.Questions.{greater_same, kind_of_goal, leads_reaches, reaches_on}
+use Rattle.two_runs.proofs.kinds.Questions.{greater_same, kind_of_goal, leads_reaches}
+use Rattle.search_graph.proofs.called.Reaching.{reaches_on}
 use Rattle.two_runs.proofs.kinds.Stack.{stack_leads, stack_of}
 
 -- ---- tests of lists

@@ -22,7 +22,7 @@ module _ {D C V P F I R A T : Type 0} (G : DelegateOf D C V P F I R A T) (X : Cx
   asked_keeps_entries (NoneUsed off none) noop received new after later (ByEntry depth entry goals at is takes nested) = NoneUsed off none
   asked_keeps_entries (NoneUsed off none) noop received new after later (ByStored depth hit goals at no_entry is takes usable) = NoneUsed off none
   asked_keeps_entries (NoneUsed off none) noop received new after later (OverCycle depth head given goals at no_entry not_stored found closes) = NoneUsed off none
-  asked_keeps_entries (NoneUsed off none) noop received new after later (Pushed depth goals nodes now at no_entry not_stored absent pushes fates fated one counted) = NoneUsed off none
+  asked_keeps_entries (NoneUsed off none) noop received new after later (Pushed depth goals held nodes now at no_entry not_stored absent pushes fates holds fated one counted) = NoneUsed off none
 
 -- a call begins with a goal that is pushed
 pub began_keeps_entries : {D C V P F I R A T : Type 0} (G : DelegateOf D C V P F I R A T) (X : CxOf C I R A T) (same : I → I → Bool) (cx : C) (kind : PathKind) (goal : I) (old : Cache C I R A T) (e : Evaluation D C V P F I R A T) (is_new : IsNew e) (depth : AvailableDepth) (goals : List (OpenGoal C F I R A T)) (nodes : List (CacheNode I R))

@@ -2,12 +2,13 @@
 -- is of a goal without entries, and no goal that is nested in a stored result that is used has one.
 use Rattle.std.proofs.Common.{◌≡◌, ℕ, Bool, true, false, Contains, IsSome, List, [], None, Some, inr, refl, sym, ap, subst}
 use Rattle.global_cache.specs.Hits.{hit_at}
+use Rattle.search_graph.specs.Reaching.{AsksNewest}
 use Rattle.two_runs.specs.Evaluations.{HaveOneKind}
 use Rattle.two_runs.specs.Below.{AvailableDepth, Cache, CacheNode, Call, CxOf, DelegateOf, entries_at, Evaluate, first_accepted, first_entry, first_run, HasStepped, Hit, is_applicable, IsNew, IsRight, Lists, NotesCandidate, OpenGoal, PathKind, paths_at, ProvisionalCacheEntry, Pushes, Received, Request, Requests, Store, stored_at, StoredResult, Success, usable, verdicts}
 use Rattle.search_state.specs.declared.evaluation.Evaluation.{Evaluation}
 use Rattle.search_questions.specs.Words.{AskingLeadsTo, asking, ByEntry, ByStored, entry_for, OverCycle, Pushed, Refused}
 use Rattle.search_rules.specs.Calls.{CallIsEnclosed}
-use Rattle.two_runs.specs.Kinds.{AsksNewest, ReachesNested, StoredReachNested}
+use Rattle.two_runs.specs.Kinds.{ReachesNested, StoredReachNested}
 use Rattle.search_rules.specs.Provisional.{EntriesMetNone}
 use Rattle.two_runs.proofs.settled.LoneGoals.{hit_of_answered, some_and}
 use Rattle.two_runs.proofs.settled.SettledGoals.{used_success}
@@ -15,7 +16,7 @@ use Rattle.two_runs.proofs.kinds.ApartMoves.{answered_apart, noted_apart, ready_
 use Rattle.two_runs.proofs.kinds.Moves.{cycle_keeps_kinds, entry_keeps_kinds, none_keeps_kinds, noted_keeps_kinds, pushed_keeps_kinds, stepped_keeps_kinds, stored_keeps_kinds}
 use Rattle.two_runs.proofs.kinds.StandingApart.{apart_none, apart_pushed}
 use Rattle.two_runs.proofs.kinds.UsedEntries.{HaveHeads, none_in_used, none_where_unanswered}
-use Rattle.two_runs.proofs.kinds.Asking.{asks_newest}
+use Rattle.search_graph.proofs.called.Reaching.{asks_newest}
 use Rattle.search_rules.proofs.moves.Questions.{enclosed_refuses_none}
 use Rattle.search_rules.proofs.moves.Moves.{enclosed_asks}
 
@@ -82,7 +83,7 @@ module _ {D C V P F I R A T : Type 0} (G : DelegateOf D C V P F I R A T) (X : Cx
     apart = answered_apart same old.results e.provisional e.goals goals kind 0 false _ closes.takes h.apart;
     reached = h.reached;
   }
-  asked_keeps noop received new after later (Pushed depth goals nodes now at none not_stored absent pushes fates fated one counted) =
+  asked_keeps noop received new after later (Pushed depth goals held nodes now at none not_stored absent pushes fates holds fated one counted) =
       pushed_keeps G X same cx call kind goal depth old.nodes nodes old.results e.goals goals e.provisional asks (asked_without_entries none) pushes h
 
 -- a call begins with a goal that is pushed

@@ -162,10 +162,10 @@ module _ {D C V P F I R A T : Type 0} (G : DelegateOf D C V P F I R A T) (X : Cx
         (λ definite. subst (λ stack. IsSomeAnd closes.entry.state.node (λ n. IsLeaf stack n.0)) (taken_stack (verdicts X) same by_value old.nodes old.results e.provisional e.goals goals kind 0 false _ closes.takes) (head_stops head closes.entry closes.is_at)));
     entries = kept_then received new after later (OverCycle depth head given goals at none not_stored found closes);
   }
-  asked_settles received new after later (Pushed depth goals nodes now at none not_stored absent pushes fates fated one counted) = record {
+  asked_settles received new after later (Pushed depth goals held nodes now at none not_stored absent pushes fates holds fated one counted) = record {
     settling = pushed_settles G X same by_value own cx kind goal old e starts call right h depth goals nodes pushes _ fates (to_store noop (G.scoped cx goal) _ needs.needs.unrecorded (needs.needs.unscoped goal within))
         (asked_not_lone G X cx call same old.results needs.needs.enclosed h.settled.require ahead kind goal e.goals starts e.limits_met depth.0 (may_ask_of G X cx call ahead kind goal starts e.limits_met more depth e.goals at) asked.asked h.none_lone (asking G X same cx kind goal e) noop (G.scoped cx goal) needs.needs.unrecorded (needs.needs.unscoped goal within) not_stored)
         absent;
     answer = begin_stays_off (verdicts X) same by_value nodes old.results e.provisional goals Begin None (λ r is. let clash : Begin ≡ Answer r = is in cc);
-    entries = kept_then received new after later (Pushed depth goals nodes now at none not_stored absent pushes fates fated one counted);
+    entries = kept_then received new after later (Pushed depth goals held nodes now at none not_stored absent pushes fates holds fated one counted);
   }

@@ -42,7 +42,7 @@ module _ {D C V P F I R A T : Type 0} {G : DelegateOf D C V P F I R A T} {X : Cx
   advanced_unmet (FrameFailed fault goals failed) = s.settling.unmet
   advanced_unmet (Asked kind goal goals given new after later stepped asks keeps) =
       ask_unmet G X same old.cx kind goal old (record e { goals = goals }) starts call _ noop needs (asks_so (Evaluate kind goal) goals stepped) after.limits_met s.settling.unmet keeps.meets
-  advanced_unmet (NotAsked kind goal goals new after later stepped stops keeps) =
+  advanced_unmet (NotAsked kind goal goals new after later stepped fails keeps) =
       ask_unmet G X same old.cx kind goal old (record e { goals = goals }) starts call _ noop needs (asks_so (Evaluate kind goal) goals stepped) after.limits_met s.settling.unmet keeps.meets
   advanced_unmet (RunEnded outcome goals result new after later stepped runs ends) =
       end_unmet G X same laws.by_value old (record e { goals = goals }) starts call _ noop outcome needs (asks_so (Done outcome) goals stepped) (right_so (Done outcome) goals stepped refl) (settling_so (Done outcome) goals stepped refl) (entries_so (Done outcome) goals stepped refl)
@@ -57,7 +57,7 @@ module _ {D C V P F I R A T : Type 0} {G : DelegateOf D C V P F I R A T} {X : Cx
   advanced_settles (Asked kind goal goals given new after later stepped asks keeps) =
       asked_settles G X same laws.by_value laws.own laws.divides old.cx kind goal old (record e { goals = goals }) starts call _ noop needs (asks_so (Evaluate kind goal) goals stepped) (right_so (Evaluate kind goal) goals stepped refl) (settling_so (Evaluate kind goal) goals stepped refl) (entries_so (Evaluate kind goal) goals stepped refl)
       given new after later asks
-  advanced_settles (NotAsked kind goal goals new after later stepped stops keeps) = tt
+  advanced_settles (NotAsked kind goal goals new after later stepped fails keeps) = tt
   advanced_settles (RunEnded outcome goals result new after later stepped runs ends) =
       if_ok_then result _ _ (ended_leads ends)
       (λ next. led_settles G X same laws.by_value old (record e { goals = goals }) starts call _ noop outcome needs (asks_so (Done outcome) goals stepped) (right_so (Done outcome) goals stepped refl) (settling_so (Done outcome) goals stepped refl) (entries_so (Done outcome) goals stepped refl)
@@ -75,7 +75,7 @@ module _ {D C V P F I R A T : Type 0} {G : DelegateOf D C V P F I R A T} {X : Cx
       → OnErr result (IsSettledStore G X same old.cx call.goals new.nodes new.results)
   advanced_leaves (FrameFailed fault goals failed) = store_settled G X same old.cx call received old e s
   advanced_leaves (Asked kind goal goals given new after later stepped asks keeps) = tt
-  advanced_leaves (NotAsked kind goal goals new after later stepped stops keeps) =
+  advanced_leaves (NotAsked kind goal goals new after later stepped fails keeps) =
       settled_stays G X same old.cx call.goals old new (runs_of e.goals) right.right.free keeps.cache.nodes keeps.same_results (store_settled G X same old.cx call received old e s)
   advanced_leaves (RunEnded outcome goals result new after later stepped runs ends) =
       on_err_if result _ (ended_stores ends).fails

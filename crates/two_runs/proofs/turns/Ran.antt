@@ -52,9 +52,9 @@ module _ {D C V P F I R A T : Type 0} {G : DelegateOf D C V P F I R A T} {X : Cx
     ran_settles :
         {result : Result (Next R) (Fault I R)} {new : Cache C I R A T} {after : Evaluation D C V P F I R A T} {later : ℕ} → Ran G X same same_result noop kind goal fate old e starts result new after later
         → IfStep result (λ given. Settles G X same old.cx call given new after)
-    ran_settles (Began goals nodes later pushes fates nodes_kept one counted) =
-        begins_settles G X same laws.by_value laws.own old.cx kind goal old e outset.new e.root_depth goals nodes pushes fate fates sound is_stored not_lone call (begins_unmet G X old.cx call noop goal e.root_depth.0 starts e.limits_met needs at.outset) settled
-    ran_settles (NotBegun goals later least one) = tt
+    ran_settles (Began goals held nodes later pushes fates holds nodes_kept one counted) =
+        begins_settles G X same laws.by_value laws.own old.cx kind goal old e outset.new e.root_depth goals held nodes pushes fate fates sound is_stored not_lone call (begins_unmet G X old.cx call noop goal e.root_depth.0 starts e.limits_met needs at.outset) settled
+    ran_settles (NotBegun goals held later least one) = tt
     ran_settles (Then given mid between now result new after later ran turned) =
         step_of result (λ next. SettlesNext G X same old.cx call next new after) _
         (settled_over laws (ran_keeps laws outset are_runs sound ran).context turned (ran_right laws outset are_runs sound ran) call (ran_waits laws outset are_runs sound call at ran) needs (ran_settles ran)).settles
@@ -62,16 +62,16 @@ module _ {D C V P F I R A T : Type 0} {G : DelegateOf D C V P F I R A T} {X : Cx
 
     pub ran_unmet :
         {result : Result (Next R) (Fault I R)} {new : Cache C I R A T} {after : Evaluation D C V P F I R A T} {later : ℕ} → Ran G X same same_result noop kind goal fate old e starts result new after later → after.limits_met ≡ false
-    ran_unmet (Began goals nodes later pushes fates nodes_kept one counted) = begins_unmet G X old.cx call noop goal e.root_depth.0 starts e.limits_met needs at.outset
-    ran_unmet (NotBegun goals later least one) = begins_unmet G X old.cx call noop goal e.root_depth.0 starts e.limits_met needs at.outset
+    ran_unmet (Began goals held nodes later pushes fates holds nodes_kept one counted) = begins_unmet G X old.cx call noop goal e.root_depth.0 starts e.limits_met needs at.outset
+    ran_unmet (NotBegun goals held later least one) = begins_unmet G X old.cx call noop goal e.root_depth.0 starts e.limits_met needs at.outset
     ran_unmet (Then given mid between now result new after later ran turned) =
         (settled_over laws (ran_keeps laws outset are_runs sound ran).context turned (ran_right laws outset are_runs sound ran) call (ran_waits laws outset are_runs sound call at ran) needs (ran_settles ran)).unmet
 
     pub ran_settled :
         {result : Result (Next R) (Fault I R)} {new : Cache C I R A T} {after : Evaluation D C V P F I R A T} {later : ℕ} → Ran G X same same_result noop kind goal fate old e starts result new after later
         → HasCome result (IsSettledStore G X same old.cx call.goals new.nodes new.results)
-    ran_settled (Began goals nodes later pushes fates nodes_kept one counted) = tt
-    ran_settled (NotBegun goals later least one) = settled
+    ran_settled (Began goals held nodes later pushes fates holds nodes_kept one counted) = tt
+    ran_settled (NotBegun goals held later least one) = settled
     ran_settled (Then given mid between now result new after later ran turned) =
         let turns = settled_over laws (ran_keeps laws outset are_runs sound ran).context turned (ran_right laws outset are_runs sound ran) call (ran_waits laws outset are_runs sound call at ran) needs (ran_settles ran) in
         come_either result (λ next. SettlesNext G X same old.cx call next new after) _ turns.settles (λ answer on. on) turns.leaves

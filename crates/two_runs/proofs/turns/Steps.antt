@@ -213,10 +213,10 @@ begins_unscoped G X cx call noop goal root starts met needs at = subst (λ g. G.
 -- its goal is pushed
 pub begins_settles :
     {D C V P F I R A T : Type 0} (G : DelegateOf D C V P F I R A T) (X : CxOf C I R A T) (same : I → I → Bool) (by_value : (x y : I) → same x y ≡ true → x ≡ y) (own : (x : I) → same x x ≡ true) (cx : C) (kind : PathKind) (goal : I) (old : Cache C I R A T) (e : Evaluation D C V P F I R A T) (is_new : IsNew e)
-    (depth : AvailableDepth) (goals : List (OpenGoal C F I R A T)) (nodes : List (CacheNode I R)) (pushes : Pushes G X cx goal kind depth old.nodes nodes e.goals goals) (fate : Fate R) → fates_of goals ≡ record { goal = goal; depth = depth.0; fate = fate } ∷ fates_of e.goals
+    (depth : AvailableDepth) (goals : List (OpenGoal C F I R A T)) (held : List V) (nodes : List (CacheNode I R)) (pushes : Pushes G X cx goal kind depth old.nodes nodes e.goals goals) (fate : Fate R) → fates_of goals ≡ record { goal = goal; depth = depth.0; fate = fate } ∷ fates_of e.goals
     → AreSoundResults same (verdicts X) (G.script cx) old.nodes old.results → fate ≡ becomes.Stored → (IsLone same old.results goal → ⊥) → (call : Call I) → e.limits_met ≡ false → IsSettledStore G X same cx call.goals old.nodes old.results
-    → Settles G X same cx call (record { reply = Begin; node = None }) (record old { nodes = nodes }) (record e { goals = goals })
-begins_settles G X same by_value own cx kind goal old e is_new depth goals nodes pushes fate fates sound stored not_lone call unmet store = record {
+    → Settles G X same cx call (record { reply = Begin; node = None }) (record old { nodes = nodes }) (record e { goals = goals; scopes = held })
+begins_settles G X same by_value own cx kind goal old e is_new depth goals held nodes pushes fate fates sound stored not_lone call unmet store = record {
   settling =
       pushed_settles G X same by_value own cx kind goal old e 0 call (new_right G X same cx kind goal old e is_new sound)
       (record {

@@ -1,13 +1,13 @@
-use Rattle.std.proofs.Common.{List, Some, [], ◌∷◌, length, map, reverse, All, ◌≡◌, ◌<◌, ◌≤◌, refl, sym, ap, subst, ◌∙◌}
+use Rattle.std.proofs.Common.{List, Ok, Some, [], ◌∷◌, length, map, reverse, option_map, is_some, All, ◌≡◌, ◌<◌, ◌≤◌, refl, sym, ap, subst, ◌∙◌}
 use Rattle.std.specs.Option.{IfSome}
-use Rattle.search_ends.specs.Below.{ChangesNewest, fates_of, HaveExpected, IfCompared, IsExpected, IsPlainValue, highest, StackEntry, ProvisionalCacheEntry, entries_at, EvaluationResult, HasGraph, place_of, KeepsResults, IsPlainAt, KeepsFinished, IsPlainTo, verdicts, AreJustified, HaveTallies, AreReady, HasReason, IsNewestUnranked, RebasesNewest, final_answer, AreFree, ComesTo, IsNewestPlainTo, IsNewestStored, IsStored, NewestComesTo, NewestIsPlain, StoresAnswer, StoresNewest, GivesAnswer, GivesNested, LeavesNested, runs_of, IsJustifiedNext, HasNewestNode, HasResultNode, KeepsBut, node_given}
+use Rattle.search_ends.specs.Below.{ChangesNewest, newest, fates_of, HaveExpected, IfCompared, IsExpected, IsPlainValue, highest, StackEntry, ProvisionalCacheEntry, entries_at, EvaluationResult, HasGraph, place_of, KeepsResults, IsPlainAt, KeepsFinished, IsPlainTo, verdicts, AreJustified, HaveTallies, AreReady, HasReason, IsNewestUnranked, RebasesNewest, final_answer, AreFree, ComesTo, IsNewestPlainTo, IsNewestStored, IsStored, NewestComesTo, NewestIsPlain, StoresAnswer, StoresNewest, GivesAnswer, GivesNested, LeavesNested, runs_of, IsJustifiedNext, HasNewestNode, HasResultNode, KeepsBut, node_given}
 use Rattle.search_ends.specs.Popped.{IsNewestCompared}
-use Rattle.search_ends.specs.Words.{Fails, Pops}
+use Rattle.search_ends.specs.Words.{Fails, NewestFailsToStore, Pops}
 use Rattle.global_cache.proofs.Stores.{KeepsResults-same}
 use Rattle.search_ends.proofs.results.Given.{heads_given, puts_given, storable_given, stores_given}
-use Rattle.search_ends.proofs.results.Failing.{fails_after, memory_fails}
+use Rattle.search_ends.proofs.results.Failing.{fails_after, memory_fails, newest_fails_to_store, newest_wants_memory}
 use Rattle.between_moves.proofs.Keeping.{ending_keeps}
-use Rattle.search_state.proofs.nodes.Noting.{noted_same, noted_then}
+use Rattle.search_ends.proofs.results.Notes.{notes_after, notes_err, notes_ok, notes_same}
 use Rattle.search_rules.proofs.entries.Ready.{are_within, heads_on_stack, on_stack_many}
 use Rattle.search_rules.proofs.entries.Pops.{rebased_ready}
 use Rattle.search_rules.proofs.rebasing.Lists.{entries_rebased, highest_stays}
@@ -18,7 +18,7 @@ use Rattle.search_rules.proofs.moves.Questions.{if_err_and}
 use Rattle.search_rules.proofs.moves.FinishedRuns.{headless_graph, taken_run_ends, taken_run_open, taken_run_placed}
 use Rattle.run_records.specs.declared.runs.Fate.TheVariants as becomes
 use Rattle.search_rules.proofs.moves.Fates.{newest_changes}
-use Rattle.search_rules.specs.Fates.{Untouched}
+use Rattle.search_rules.specs.Fates.{is_compared, Untouched}
 use Rattle.search_ends.proofs.pop.pop_goal.Goals as goal
 
 pub result_node-requires-clause-of_goal : goal.result_node-requires-clause-of_goal
@@ -33,6 +33,17 @@ result_node-requires-clause-ends g c = λ definite.
 pub result_node-requires-clause-placed : goal.result_node-requires-clause-placed
 result_node-requires-clause-placed g c = λ definite.
     taken_run_placed (verdicts g.D.Cx.Cx) c.args.cache.now.nodes c.args.cache.now.nodes c.args.evaluation.now.goals c.pop-entry.result.entry c.pop-entry.result.run c.pop-entry.new.self c.pop-entry.ensures c.requires.may.right.justified
+
+-- ---- the goal's own scope is there
+
+pub release_scope-scope-requires-clause-held : goal.release_scope-scope-requires-clause-held
+release_scope-scope-requires-clause-held g c = c.requires.held
+
+pub store_answer-requires-clause-in_scope : goal.store_answer-requires-clause-in_scope
+store_answer-requires-clause-in_scope g c =
+    let both : Some (is_compared c.pop-entry.result.run.fate) ≡ Some (is_some c.release_scope-scope.result) = subst (λ l. option_map (λ s. is_compared s.1.fate) (newest l) ≡ Some (is_some c.release_scope-scope.result)) c.pop-entry.ensures c.release_scope-scope.ensures.own in
+    let one : is_compared c.pop-entry.result.run.fate ≡ is_some c.release_scope-scope.result = cc in
+    c.as_ref-held.ensures.variant ∙ sym one
 
 -- ---- the heads of the entry and of the entries are on the stack
 
@@ -106,6 +117,25 @@ returns-in_err-store_answer-clause-fails g c =
     subst (Fails g.D.Delegate g.D.Cx.Cx g.D.Cx.Input.PartialEq.eq c.args.outcome c.args.cache.now c.store_answer.new.cache c.store_answer.new.evaluation.drafts) (sym is)
     (fails_after g.D.Delegate g.D.Cx.Cx g.D.Cx.Input.PartialEq.eq c.args.outcome c.args.cache.now c.store_answer.new.cache c.store_answer.new.evaluation.drafts c.result_node.new.cache c.give_answer.new.answer.result _
     (ap (λ (a : EvaluationResult _ _ _ _ _). a.result) c.give_answer.ensures.left.others ∙ ap (λ (a : EvaluationResult _ _ _ _ _). a.result) c.finalize-answer.ensures) c.result_node.ensures.same_results c.in_err-store_answer.ensures.fails))
+
+-- whose fault it is
+
+pub returns-in_err-node-clause-whose : goal.returns-in_err-node-clause-whose
+returns-in_err-node-clause-whose g c = newest_wants_memory g.D.Cx.Input.PartialEq.eq c.args.cache.now.results c.from_residual.result c.pop-entry.ensures c.from_residual.ensures.1
+
+pub returns-in_err-rebase_entries-clause-whose : goal.returns-in_err-rebase_entries-clause-whose
+returns-in_err-rebase_entries-clause-whose g c = newest_wants_memory g.D.Cx.Input.PartialEq.eq c.args.cache.now.results c.from_residual-in_err-rebase_entries.result c.pop-entry.ensures c.from_residual-in_err-rebase_entries.ensures.1
+
+pub returns-in_err-next-clause-whose : goal.returns-in_err-next-clause-whose
+returns-in_err-next-clause-whose g c = newest_wants_memory g.D.Cx.Input.PartialEq.eq c.args.cache.now.results c.from_residual-in_err-next.result c.pop-entry.ensures c.from_residual-in_err-next.ensures.1
+
+pub returns-in_err-store_answer-clause-whose : goal.returns-in_err-store_answer-clause-whose
+returns-in_err-store_answer-clause-whose g c =
+    if_err_and c.from_residual-in_err-store_answer.result _ _ c.from_residual-in_err-store_answer.ensures.1
+    (λ e is.
+    subst (NewestFailsToStore g.D.Cx.Input.PartialEq.eq c.args.cache.now.results c.args.evaluation.now.goals) (sym is)
+    (newest_fails_to_store g.D.Cx.Input.PartialEq.eq _ c.pop-entry.ensures c.result_node.ensures.same_results c.input-input.ensures
+    (ap (λ (a : EvaluationResult _ _ _ _ _). place_of a) c.give_answer.ensures.left.others ∙ ap (λ (a : EvaluationResult _ _ _ _ _). place_of a) c.finalize-answer.ensures) c.in_err-store_answer.ensures.whose))
 
 pub returns-in_err-store_answer-clause-stored : goal.returns-in_err-store_answer-clause-stored
 returns-in_err-store_answer-clause-stored g c = newest_stored (verdicts g.D.Cx.Cx) c.args.cache.now.nodes c.result_node.new.cache.nodes c.args.evaluation.now.goals c.pop-entry.result.entry c.pop-entry.result.run c.pop-entry.new.self c.pop-entry.ensures c.args.outcome c.in_ok-node.node c.requires.may.right.justified c.in_ok-node.ensures.has_node g.D.Cx.Input.PartialEq.eq c.args.cache.now.results c.store_answer.new.cache.results
@@ -204,11 +234,12 @@ returns-clause-popped g c =
           (subst (λ node. c.pop-entry.result.run.fate ≡ becomes.Stored → c.pop-entry.result.entry.state.heads ≡ [] → IsStored g.D.Cx.Input.PartialEq.eq (g.D.Cx.Cx.token c.args.cache.now.cx) c.store_answer.new.cache.results c.pop-entry.result.entry.input (final_answer (c.pop-entry.result.entry, c.pop-entry.result.run) c.args.outcome node)) (sym node_is)
           (subst (λ cx. c.pop-entry.result.run.fate ≡ becomes.Stored → c.pop-entry.result.entry.state.heads ≡ [] → IsStored g.D.Cx.Input.PartialEq.eq (g.D.Cx.Cx.token cx) c.store_answer.new.cache.results c.pop-entry.result.entry.input (final_answer (c.pop-entry.result.entry, c.pop-entry.result.run) c.args.outcome c.in_ok-node.node)) same_cx
           (subst (λ i. c.pop-entry.result.run.fate ≡ becomes.Stored → c.pop-entry.result.entry.state.heads ≡ [] → IsStored g.D.Cx.Input.PartialEq.eq (g.D.Cx.Cx.token c.store_answer.new.cache.cx) c.store_answer.new.cache.results i (final_answer (c.pop-entry.result.entry, c.pop-entry.result.run) c.args.outcome c.in_ok-node.node)) c.input-input.ensures
-          (subst (λ (a : EvaluationResult _ _ _ _ _). c.pop-entry.result.run.fate ≡ becomes.Stored → a.heads ≡ [] → IsStored g.D.Cx.Input.PartialEq.eq (g.D.Cx.Cx.token c.store_answer.new.cache.cx) c.store_answer.new.cache.results c.input-input.result a) c.finalize-answer.ensures (stores_given g.D.Delegate g.D.Cx.Cx c.finalize-answer.result c.give_answer.new.answer c.give_answer.ensures.left g.D.Cx.Input.PartialEq.eq c.step_kind_from_parent-step.result c.input-input.result c.pop-entry.result.run.fate (record c.args.evaluation.now { goals = c.give_answer.new.goals; provisional = c.rebase_entries.new.provisional }) c.store_answer.new.evaluation c.store_answer.new.cache c.in_ok-store_answer.ensures.stores).stored))));
+          (subst (λ (a : EvaluationResult _ _ _ _ _). c.pop-entry.result.run.fate ≡ becomes.Stored → a.heads ≡ [] → IsStored g.D.Cx.Input.PartialEq.eq (g.D.Cx.Cx.token c.store_answer.new.cache.cx) c.store_answer.new.cache.results c.input-input.result a) c.finalize-answer.ensures (stores_given g.D.Delegate g.D.Cx.Cx c.finalize-answer.result c.give_answer.new.answer c.give_answer.ensures.left g.D.Cx.Input.PartialEq.eq c.step_kind_from_parent-step.result c.input-input.result c.pop-entry.result.run.fate (record c.args.evaluation.now { goals = c.give_answer.new.goals; scopes = c.release_scope-scope.new.scopes; provisional = c.rebase_entries.new.provisional }) c.store_answer.new.evaluation c.store_answer.new.cache c.in_ok-store_answer.ensures.stores).stored))));
+      released = c.release_scope-scope.ensures.released;
       compared =
           subst (λ l. IsNewestCompared l c.args.outcome) (sym c.pop-entry.ensures)
           (subst (λ (a : EvaluationResult _ _ _ _ _). (stored : _) → c.pop-entry.result.run.fate ≡ becomes.Compared stored → a.heads ≡ [] → a.result ≡ stored) c.finalize-answer.ensures
-          (stores_given g.D.Delegate g.D.Cx.Cx c.finalize-answer.result c.give_answer.new.answer c.give_answer.ensures.left g.D.Cx.Input.PartialEq.eq c.step_kind_from_parent-step.result c.input-input.result c.pop-entry.result.run.fate (record c.args.evaluation.now { goals = c.give_answer.new.goals; provisional = c.rebase_entries.new.provisional }) c.store_answer.new.evaluation c.store_answer.new.cache c.in_ok-store_answer.ensures.stores).compared);
+          (stores_given g.D.Delegate g.D.Cx.Cx c.finalize-answer.result c.give_answer.new.answer c.give_answer.ensures.left g.D.Cx.Input.PartialEq.eq c.step_kind_from_parent-step.result c.input-input.result c.pop-entry.result.run.fate (record c.args.evaluation.now { goals = c.give_answer.new.goals; scopes = c.release_scope-scope.new.scopes; provisional = c.rebase_entries.new.provisional }) c.store_answer.new.evaluation c.store_answer.new.cache c.in_ok-store_answer.ensures.stores).compared);
       puts =
           subst (λ l. StoresNewest g.D.Cx.Input.PartialEq.eq l c.args.outcome (node_given c.in_ok-next.next) c.args.cache.now.results c.store_answer.new.cache.results) (sym c.pop-entry.ensures)
           (subst (λ node. StoresAnswer g.D.Cx.Input.PartialEq.eq c.args.cache.now.results c.store_answer.new.cache.results c.pop-entry.result.entry.input (final_answer (c.pop-entry.result.entry, c.pop-entry.result.run) c.args.outcome node)) (sym node_is)
@@ -221,7 +252,7 @@ returns-clause-popped g c =
           (subst (λ nodes. HasResultNode (verdicts g.D.Cx.Cx) c.args.cache.now.nodes nodes c.pop-entry.result.entry.state.provisional_result c.pop-entry.result.run.node c.pop-entry.result.entry.state.node c.pop-entry.result.run.progress c.args.outcome c.in_ok-node.node) (sym (ap (λ cache. cache.nodes) c.store_answer.ensures.puts.cache.rest)) c.in_ok-node.ensures.has_node));
       rebased =
           subst (λ l. RebasesNewest g.D.Cx.Input.PartialEq.eq g.D.Delegate.ENABLE_PROVISIONAL_CACHE (g.D.Delegate.propagated c.args.cache.now.cx) (g.D.Delegate.fixpoint_overflow c.args.cache.now.cx) c.args.reason c.args.outcome (node_given c.in_ok-next.next) l c.args.evaluation.now.provisional c.store_answer.new.evaluation.provisional) (sym c.pop-entry.ensures)
-          (record { node = c.in_ok-node.node; entries = entries_rebased g.D.Cx.Input.PartialEq.eq g.D.Delegate.ENABLE_PROVISIONAL_CACHE g.D.Delegate.propagated g.D.Delegate.fixpoint_overflow c.cx.result c.args.cache.now.cx (c.cx.ensures ∙ c.in_ok-node.ensures.same_context) c.args.reason c.args.outcome c.in_ok-node.node (c.pop-entry.result.entry, c.pop-entry.result.run) c.pop-entry.new.self c.give_answer.new.goals c.in_ok-next.next c.stack-stack.result.now (reverse (map (λ s. s.0) c.give_answer.new.goals)) c.stack-stack.ensures refl c.step_kind_from_parent-step.result c.step_kind_from_parent-step.ensures c.input-input.result c.input-input.ensures c.finalize-answer.result c.finalize-answer.ensures c.in_ok-next.ensures.given c.args.evaluation.now.provisional c.rebase_entries.new.provisional c.store_answer.new.evaluation.provisional c.in_ok-rebase_entries.ensures.exact (stores_given g.D.Delegate g.D.Cx.Cx c.finalize-answer.result c.give_answer.new.answer c.give_answer.ensures.left g.D.Cx.Input.PartialEq.eq c.step_kind_from_parent-step.result c.input-input.result c.pop-entry.result.run.fate (record c.args.evaluation.now { goals = c.give_answer.new.goals; provisional = c.rebase_entries.new.provisional }) c.store_answer.new.evaluation c.store_answer.new.cache c.in_ok-store_answer.ensures.stores).entry }, sym node_is);
+          (record { node = c.in_ok-node.node; entries = entries_rebased g.D.Cx.Input.PartialEq.eq g.D.Delegate.ENABLE_PROVISIONAL_CACHE g.D.Delegate.propagated g.D.Delegate.fixpoint_overflow c.cx.result c.args.cache.now.cx (c.cx.ensures ∙ c.in_ok-node.ensures.same_context) c.args.reason c.args.outcome c.in_ok-node.node (c.pop-entry.result.entry, c.pop-entry.result.run) c.pop-entry.new.self c.give_answer.new.goals c.in_ok-next.next c.stack-stack.result.now (reverse (map (λ s. s.0) c.give_answer.new.goals)) c.stack-stack.ensures refl c.step_kind_from_parent-step.result c.step_kind_from_parent-step.ensures c.input-input.result c.input-input.ensures c.finalize-answer.result c.finalize-answer.ensures c.in_ok-next.ensures.given c.args.evaluation.now.provisional c.rebase_entries.new.provisional c.store_answer.new.evaluation.provisional c.in_ok-rebase_entries.ensures.exact (stores_given g.D.Delegate g.D.Cx.Cx c.finalize-answer.result c.give_answer.new.answer c.give_answer.ensures.left g.D.Cx.Input.PartialEq.eq c.step_kind_from_parent-step.result c.input-input.result c.pop-entry.result.run.fate (record c.args.evaluation.now { goals = c.give_answer.new.goals; scopes = c.release_scope-scope.new.scopes; provisional = c.rebase_entries.new.provisional }) c.store_answer.new.evaluation c.store_answer.new.cache c.in_ok-store_answer.ensures.stores).entry }, sym node_is);
       right = record {
         justified =
             subst (λ nodes. IsJustifiedNext (verdicts g.D.Cx.Cx) nodes c.args.evaluation.now.goals c.give_answer.new.goals c.in_ok-next.next) (sym (ap (λ cache. cache.nodes) c.store_answer.ensures.puts.cache.rest))
@@ -247,7 +278,7 @@ returns-clause-popped g c =
             c.args.reason (subst (λ l. HasReason (verdicts g.D.Cx.Cx) c.args.reason l c.args.outcome) c.pop-entry.ensures c.requires.may.is_reason)
             c.are_rising.ensures (subst (IsNewestUnranked (g.D.Delegate.script c.args.cache.now.cx)) c.pop-entry.ensures c.requires.may.unranked)
             g.D.Delegate.ENABLE_PROVISIONAL_CACHE c.args.evaluation.now.provisional c.store_answer.new.evaluation.provisional
-            (entries_rebased g.D.Cx.Input.PartialEq.eq g.D.Delegate.ENABLE_PROVISIONAL_CACHE g.D.Delegate.propagated g.D.Delegate.fixpoint_overflow c.cx.result c.args.cache.now.cx (c.cx.ensures ∙ c.in_ok-node.ensures.same_context) c.args.reason c.args.outcome c.in_ok-node.node (c.pop-entry.result.entry, c.pop-entry.result.run) c.pop-entry.new.self c.give_answer.new.goals c.in_ok-next.next c.stack-stack.result.now (reverse (map (λ s. s.0) c.give_answer.new.goals)) c.stack-stack.ensures refl c.step_kind_from_parent-step.result c.step_kind_from_parent-step.ensures c.input-input.result c.input-input.ensures c.finalize-answer.result c.finalize-answer.ensures c.in_ok-next.ensures.given c.args.evaluation.now.provisional c.rebase_entries.new.provisional c.store_answer.new.evaluation.provisional c.in_ok-rebase_entries.ensures.exact (stores_given g.D.Delegate g.D.Cx.Cx c.finalize-answer.result c.give_answer.new.answer c.give_answer.ensures.left g.D.Cx.Input.PartialEq.eq c.step_kind_from_parent-step.result c.input-input.result c.pop-entry.result.run.fate (record c.args.evaluation.now { goals = c.give_answer.new.goals; provisional = c.rebase_entries.new.provisional }) c.store_answer.new.evaluation c.store_answer.new.cache c.in_ok-store_answer.ensures.stores).entry)
+            (entries_rebased g.D.Cx.Input.PartialEq.eq g.D.Delegate.ENABLE_PROVISIONAL_CACHE g.D.Delegate.propagated g.D.Delegate.fixpoint_overflow c.cx.result c.args.cache.now.cx (c.cx.ensures ∙ c.in_ok-node.ensures.same_context) c.args.reason c.args.outcome c.in_ok-node.node (c.pop-entry.result.entry, c.pop-entry.result.run) c.pop-entry.new.self c.give_answer.new.goals c.in_ok-next.next c.stack-stack.result.now (reverse (map (λ s. s.0) c.give_answer.new.goals)) c.stack-stack.ensures refl c.step_kind_from_parent-step.result c.step_kind_from_parent-step.ensures c.input-input.result c.input-input.ensures c.finalize-answer.result c.finalize-answer.ensures c.in_ok-next.ensures.given c.args.evaluation.now.provisional c.rebase_entries.new.provisional c.store_answer.new.evaluation.provisional c.in_ok-rebase_entries.ensures.exact (stores_given g.D.Delegate g.D.Cx.Cx c.finalize-answer.result c.give_answer.new.answer c.give_answer.ensures.left g.D.Cx.Input.PartialEq.eq c.step_kind_from_parent-step.result c.input-input.result c.pop-entry.result.run.fate (record c.args.evaluation.now { goals = c.give_answer.new.goals; scopes = c.release_scope-scope.new.scopes; provisional = c.rebase_entries.new.provisional }) c.store_answer.new.evaluation c.store_answer.new.cache c.in_ok-store_answer.ensures.stores).entry)
             (subst (λ l. AreReady (verdicts g.D.Cx.Cx) g.D.Cx.Input.PartialEq.eq (g.D.Delegate.script c.args.cache.now.cx) c.args.cache.now.nodes (runs_of l) c.args.evaluation.now.provisional) c.pop-entry.ensures c.requires.may.right.ready)
             c.in_ok-next.next c.give_answer.new.goals
             (subst (λ step. GivesAnswer step (final_answer (c.pop-entry.result.entry, c.pop-entry.result.run) c.args.outcome c.in_ok-node.node) c.pop-entry.new.self c.in_ok-next.next c.give_answer.new.goals) c.step_kind_from_parent-step.ensures
@@ -256,22 +287,20 @@ returns-clause-popped g c =
     })
 
 pub returns-in_err-node-clause-noted : goal.returns-in_err-node-clause-noted
-returns-in_err-node-clause-noted g c = noted_same g.D.Cx.Input.PartialEq.eq c.args.cache.now c.result_node.new.cache c.args.evaluation.now.drafts c.args.evaluation.now.drafts refl c.result_node.ensures.kept c.result_node.ensures.same_results (KeepsResults-same g.D.Cx.Input.PartialEq.eq c.args.cache.now.results c.result_node.new.cache.results c.result_node.ensures.same_results)
+returns-in_err-node-clause-noted g c = notes_same (verdicts g.D.Cx.Cx) g.D.Cx.Input.PartialEq.eq c.from_residual.result c.args.cache.now c.result_node.new.cache c.args.evaluation.now.drafts c.result_node.ensures.same_results
 
 pub returns-in_err-rebase_entries-clause-noted : goal.returns-in_err-rebase_entries-clause-noted
-returns-in_err-rebase_entries-clause-noted g c = noted_same g.D.Cx.Input.PartialEq.eq c.args.cache.now c.result_node.new.cache c.args.evaluation.now.drafts c.args.evaluation.now.drafts refl c.result_node.ensures.kept c.result_node.ensures.same_results (KeepsResults-same g.D.Cx.Input.PartialEq.eq c.args.cache.now.results c.result_node.new.cache.results c.result_node.ensures.same_results)
+returns-in_err-rebase_entries-clause-noted g c = notes_same (verdicts g.D.Cx.Cx) g.D.Cx.Input.PartialEq.eq c.from_residual-in_err-rebase_entries.result c.args.cache.now c.result_node.new.cache c.args.evaluation.now.drafts c.result_node.ensures.same_results
 
 pub returns-in_err-next-clause-noted : goal.returns-in_err-next-clause-noted
-returns-in_err-next-clause-noted g c = noted_same g.D.Cx.Input.PartialEq.eq c.args.cache.now c.result_node.new.cache c.args.evaluation.now.drafts c.args.evaluation.now.drafts refl c.result_node.ensures.kept c.result_node.ensures.same_results (KeepsResults-same g.D.Cx.Input.PartialEq.eq c.args.cache.now.results c.result_node.new.cache.results c.result_node.ensures.same_results)
+returns-in_err-next-clause-noted g c = notes_same (verdicts g.D.Cx.Cx) g.D.Cx.Input.PartialEq.eq c.from_residual-in_err-next.result c.args.cache.now c.result_node.new.cache c.args.evaluation.now.drafts c.result_node.ensures.same_results
 
 pub returns-in_err-store_answer-clause-noted : goal.returns-in_err-store_answer-clause-noted
 returns-in_err-store_answer-clause-noted g c =
-    noted_then g.D.Cx.Input.PartialEq.eq c.args.cache.now c.result_node.new.cache c.store_answer.new.cache c.args.evaluation.now.drafts c.args.evaluation.now.drafts c.store_answer.new.evaluation.drafts
-    (noted_same g.D.Cx.Input.PartialEq.eq c.args.cache.now c.result_node.new.cache c.args.evaluation.now.drafts c.args.evaluation.now.drafts refl c.result_node.ensures.kept c.result_node.ensures.same_results (KeepsResults-same g.D.Cx.Input.PartialEq.eq c.args.cache.now.results c.result_node.new.cache.results c.result_node.ensures.same_results))
-    c.store_answer.ensures.noted
+    notes_after (verdicts g.D.Cx.Cx) g.D.Cx.Input.PartialEq.eq c.from_residual-in_err-store_answer.result c.args.cache.now c.result_node.new.cache c.store_answer.new.cache c.args.evaluation.now.drafts c.store_answer.new.evaluation.drafts c.result_node.ensures.same_results
+    (notes_err (verdicts g.D.Cx.Cx) g.D.Cx.Input.PartialEq.eq c.result_node.new.cache c.store_answer.new.cache c.args.evaluation.now.drafts c.store_answer.new.evaluation.drafts _ c.from_residual-in_err-store_answer.result c.from_residual-in_err-store_answer.ensures.1 c.in_err-store_answer.ensures.noted)
 
 pub returns-clause-noted : goal.returns-clause-noted
 returns-clause-noted g c =
-    noted_then g.D.Cx.Input.PartialEq.eq c.args.cache.now c.result_node.new.cache c.store_answer.new.cache c.args.evaluation.now.drafts c.args.evaluation.now.drafts c.store_answer.new.evaluation.drafts
-    (noted_same g.D.Cx.Input.PartialEq.eq c.args.cache.now c.result_node.new.cache c.args.evaluation.now.drafts c.args.evaluation.now.drafts refl c.result_node.ensures.kept c.result_node.ensures.same_results (KeepsResults-same g.D.Cx.Input.PartialEq.eq c.args.cache.now.results c.result_node.new.cache.results c.result_node.ensures.same_results))
-    c.store_answer.ensures.noted
+    notes_after (verdicts g.D.Cx.Cx) g.D.Cx.Input.PartialEq.eq (Ok c.in_ok-next.next) c.args.cache.now c.result_node.new.cache c.store_answer.new.cache c.args.evaluation.now.drafts c.store_answer.new.evaluation.drafts c.result_node.ensures.same_results
+    (notes_ok (verdicts g.D.Cx.Cx) g.D.Cx.Input.PartialEq.eq c.result_node.new.cache c.store_answer.new.cache c.args.evaluation.now.drafts c.store_answer.new.evaluation.drafts _ c.in_ok-next.next c.in_ok-store_answer.ensures.noted)

@@ -26,12 +26,15 @@ pop_goal-requires-clause-may g c = record {
 pub pop_goal-requires-clause-expected : goal.pop_goal-requires-clause-expected
 pop_goal-requires-clause-expected g c = c.requires.expected
 
+pub pop_goal-requires-clause-held : goal.pop_goal-requires-clause-held
+pop_goal-requires-clause-held g c = c.requires.held
+
 pub returns-in-Ok-clause-ended : goal.returns-in-Ok-clause-ended
 returns-in-Ok-clause-ended g c =
     let ends = subst (λ end. IsEndOfRun g.D.Cx.Result.PartialEq.eq g.D.Delegate.initial_kind g.D.Delegate.ambiguity g.D.Delegate.FIXPOINT_STEP_LIMIT c.last_entry.result.now.state.provisional_result c.last_entry.result.now.state.usages c.last_run.result.now.finished_runs c.args.outcome end) c.in-Ok.is c.end_of_run.ensures.is_end in
     EndedDone c.last_entry.result.now c.last_run.result.now c.in-Ok.reason c.pop_goal.result c.pop_goal.new.cache c.pop_goal.new.evaluation
     (record { is_entry = c.last_entry.ensures; is_run = c.last_run.ensures; ends = ends })
-    (record { popped = c.pop_goal.ensures.popped; fails = c.pop_goal.ensures.fails; plain = c.pop_goal.ensures.plain; stored = c.pop_goal.ensures.stored; cache = c.pop_goal.ensures.cache; noted = c.pop_goal.ensures.noted; rest = c.pop_goal.ensures.rest })
+    (record { popped = c.pop_goal.ensures.popped; fails = c.pop_goal.ensures.fails; whose = c.pop_goal.ensures.whose; plain = c.pop_goal.ensures.plain; stored = c.pop_goal.ensures.stored; cache = c.pop_goal.ensures.cache; noted = c.pop_goal.ensures.noted; rest = c.pop_goal.ensures.rest })
 
 -- ---- the goal had its most runs
 
@@ -50,6 +53,9 @@ pop_goal-requires-in-Err-AtLimit-clause-may g c = record {
 pub pop_goal-requires-in-Err-AtLimit-clause-expected : goal.pop_goal-requires-in-Err-AtLimit-clause-expected
 pop_goal-requires-in-Err-AtLimit-clause-expected g c = c.requires.expected
 
+pub pop_goal-requires-in-Err-AtLimit-clause-held : goal.pop_goal-requires-in-Err-AtLimit-clause-held
+pop_goal-requires-in-Err-AtLimit-clause-held g c = c.requires.held
+
 pub returns-in-Err-AtLimit-clause-ended : goal.returns-in-Err-AtLimit-clause-ended
 returns-in-Err-AtLimit-clause-ended g c =
     let ends = subst (λ end. IsEndOfRun g.D.Cx.Result.PartialEq.eq g.D.Delegate.initial_kind g.D.Delegate.ambiguity g.D.Delegate.FIXPOINT_STEP_LIMIT c.last_entry.result.now.state.provisional_result c.last_entry.result.now.state.usages c.last_run.result.now.finished_runs c.args.outcome end) (c.in-Err-AtLimit.is ∙ ap Err c.in-Err-AtLimit.field-0-is) c.end_of_run.ensures.is_end in
@@ -60,7 +66,7 @@ returns-in-Err-AtLimit-clause-ended g c =
     EndedAtLimit c.last_entry.result.now c.last_run.result.now c.pop_goal-in-Err-AtLimit.result c.pop_goal-in-Err-AtLimit.new.cache c.pop_goal-in-Err-AtLimit.new.evaluation
     (record { is_entry = c.last_entry.ensures; is_run = c.last_run.ensures; ends = ends })
     (subst (λ r. PopsOrFails g.D.Delegate g.D.Cx.Cx g.D.Cx.Input.PartialEq.eq r (Some Overflow) c.args.cache.now (record c.args.evaluation.now { limits_met = true }) c.pop_goal-in-Err-AtLimit.result c.pop_goal-in-Err-AtLimit.new.cache c.pop_goal-in-Err-AtLimit.new.evaluation) overflow
-    (record { popped = c.pop_goal-in-Err-AtLimit.ensures.popped; fails = c.pop_goal-in-Err-AtLimit.ensures.fails; plain = c.pop_goal-in-Err-AtLimit.ensures.plain; stored = c.pop_goal-in-Err-AtLimit.ensures.stored; cache = c.pop_goal-in-Err-AtLimit.ensures.cache; noted = c.pop_goal-in-Err-AtLimit.ensures.noted; rest = c.pop_goal-in-Err-AtLimit.ensures.rest }))
+    (record { popped = c.pop_goal-in-Err-AtLimit.ensures.popped; fails = c.pop_goal-in-Err-AtLimit.ensures.fails; whose = c.pop_goal-in-Err-AtLimit.ensures.whose; plain = c.pop_goal-in-Err-AtLimit.ensures.plain; stored = c.pop_goal-in-Err-AtLimit.ensures.stored; cache = c.pop_goal-in-Err-AtLimit.ensures.cache; noted = c.pop_goal-in-Err-AtLimit.ensures.noted; rest = c.pop_goal-in-Err-AtLimit.ensures.rest }))
 
 -- ---- it is run again
 

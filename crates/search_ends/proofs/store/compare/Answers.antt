@@ -1,6 +1,8 @@
-use Rattle.search_ends.specs.Below.{stored_at}
-use Rattle.std.proofs.Common.{Contains, refl, sym, subst, ◌∙◌}
-use Rattle.search_state.proofs.nodes.Noting.{noted_as_before, noted_more, some_mapped, target_is_noted}
+use Rattle.search_ends.specs.Below.{verdicts}
+use Rattle.search_ends.specs.Storing.{NotesOne}
+use Rattle.std.proofs.Common.{Contains, Ok, refl, sym, subst, ◌∙◌}
+use Rattle.search_ends.proofs.results.Notes.{notes_none, notes_same}
+use Rattle.search_state.proofs.nodes.Noting.{noted_more, target_is_noted}
 use Rattle.search_ends.proofs.results.Causes.{comparing_lasts}
 use Rattle.search_ends.proofs.store.compare.Goals as goal
 
@@ -18,9 +20,13 @@ returns-clause-fails g c = record {
 }
 
 pub returns-in_err-note_stored-clause-noted : goal.returns-in_err-note_stored-clause-noted
-returns-in_err-note_stored-clause-noted g c = noted_as_before g.D.Cx.Input.PartialEq.eq c.args.cache.now c.args.drafts.now c.note_stored.new.self c.note_stored.ensures.first c.in_err-note_stored.ensures.refused
+returns-in_err-note_stored-clause-noted g c = notes_none (verdicts g.D.Cx.Cx) g.D.Cx.Input.PartialEq.eq c.from_residual.result c.args.cache.now c.args.drafts.now c.note_stored.new.self c.note_stored.ensures.first c.in_err-note_stored.ensures.refused
+
+pub returns-then-eq-clause-noted : goal.returns-then-eq-clause-noted
+returns-then-eq-clause-noted g c = notes_same (verdicts g.D.Cx.Cx) g.D.Cx.Input.PartialEq.eq (Ok tt) c.args.cache.now c.args.cache.now c.args.drafts.now refl
 
 pub returns-clause-noted : goal.returns-clause-noted
-returns-clause-noted g c =
-    noted_more g.D.Cx.Input.PartialEq.eq c.args.cache.now c.args.drafts.now c.note_stored.new.self c.in_ok-note_stored.ensures.first g.D.Cx.Cx c.args.input c.requires.expected.place c.args.answer.now.result c.args.answer.now.node (c.requires.storable.graph c.requires.no_heads)
-    (some_mapped (λ s. s.result.result) (stored_at g.D.Cx.Input.PartialEq.eq c.args.cache.now.results c.args.input c.requires.expected.place) c.args.stored c.requires.expected.is_stored) c.in_ok-note_stored.ensures.noted
+returns-clause-noted g c = record {
+  keeps = noted_more g.D.Cx.Input.PartialEq.eq c.args.cache.now c.args.drafts.now c.note_stored.new.self c.in_ok-note_stored.ensures.first c.args.answer.now.node c.in_ok-note_stored.ensures.noted;
+  more = NotesOne c.args.input c.args.answer.now.result c.args.answer.now.node c.in_ok-note_stored.ensures.noted (c.requires.storable.graph c.requires.no_heads) (refl, refl);
+}

@@ -1,15 +1,16 @@
 use Rattle.std.proofs.Common.{◌≡◌, ◌∙◌, Contains, Some, OnOk, ap, ap₂, refl, subst, sym}
 use Rattle.std.specs.Prelude.{length, take}
-use Rattle.search_ends.specs.Below.{stored_at, stored_from, place_of}
+use Rattle.search_ends.specs.Below.{HasGraph, stored_at, stored_from, place_of, verdicts}
 use Rattle.search_ends.proofs.results.Causes.{lasts_after, storing_lasts}
-use Rattle.search_ends.proofs.results.Failing.{refused_fails, storing_fails}
+use Rattle.search_ends.proofs.results.Notes.{never_memory, notes_none, notes_stored, notes_unstored}
+use Rattle.search_ends.proofs.results.Failing.{refused_fails, storing_fails, storing_finds}
 use Rattle.search_rules.proofs.answers.Differing.{storing_differs}
 use Rattle.search_rules.proofs.moves.Storing.{put_is_stored, same_results, stored_either}
-use Rattle.search_state.proofs.nodes.Noting.{noted_as_before, noted_forgotten, noted_storing, noted_unstored, target_is_noted}
+use Rattle.search_state.proofs.nodes.Noting.{noted_forgotten, target_is_noted}
 use Rattle.search_ends.proofs.store.store_for_good.Goals as goal
 
 pub returns-in_err-note_stored-clause-noted : goal.returns-in_err-note_stored-clause-noted
-returns-in_err-note_stored-clause-noted g c = noted_as_before g.D.Cx.Input.PartialEq.eq c.args.cache.now c.args.drafts.now c.note_stored.new.self c.note_stored.ensures.first c.in_err-note_stored.ensures.refused
+returns-in_err-note_stored-clause-noted g c = notes_none (verdicts g.D.Cx.Cx) g.D.Cx.Input.PartialEq.eq c.from_residual.result c.args.cache.now c.args.drafts.now c.note_stored.new.self c.note_stored.ensures.first c.in_err-note_stored.ensures.refused
 
 -- ---- memory was out
 
@@ -23,7 +24,7 @@ returns-then-wants_memory-clause-is_stored g c =
 
 pub returns-then-wants_memory-clause-noted : goal.returns-then-wants_memory-clause-noted
 returns-then-wants_memory-clause-noted g c =
-    noted_unstored g.D.Cx.Input.PartialEq.eq c.args.cache.now c.insert-stored.new.self c.args.drafts.now (record c.note_stored.new.self { stored = c.truncate.new.self }) c.note_stored.ensures.first
+    notes_unstored (verdicts g.D.Cx.Cx) g.D.Cx.Input.PartialEq.eq c.args.cache.now c.insert-stored.new.self c.args.drafts.now (record c.note_stored.new.self { stored = c.truncate.new.self }) c.note_stored.ensures.first
     (c.truncate.ensures.items ∙ (ap₂ take (ap length c.as_slice-known.ensures.value) c.in_ok-note_stored.ensures.noted ∙ noted_forgotten c.args.answer.node c.args.drafts.now.stored.items))
     c.insert-stored.result (c.wants_memory.ensures.memory c.if-wants_memory.true) c.insert-stored.ensures.err
 
@@ -42,9 +43,10 @@ returns-else-wants_memory-clause-is_stored g c =
 
 pub returns-else-wants_memory-clause-noted : goal.returns-else-wants_memory-clause-noted
 returns-else-wants_memory-clause-noted g c =
-    noted_storing g.D.Cx.Input.PartialEq.eq c.args.cache.now c.insert-stored.new.self g.D.Cx.Cx g.met.D.Cx.Cx.same_input c.args.input (place_of c.args.answer) (stored_from c.args.answer c.dep_node-token.result) c.insert-stored.ensures.rest c.insert-stored.ensures.kept (c.requires.storable.graph c.requires.no_heads)
-    c.args.drafts.now c.note_stored.new.self c.in_ok-note_stored.ensures.first c.in_ok-note_stored.ensures.noted g.D.Cx.Result.PartialEq.eq c.insert-stored.result c.insert-stored.ensures.ok c.insert-stored.ensures.err
-    (stored_at g.D.Cx.Input.PartialEq.eq c.args.cache.now.results c.args.input (place_of c.args.answer)) refl c.insert-stored.ensures.answer (c.wants_memory.ensures.other c.if-wants_memory.false)
+    notes_stored (verdicts g.D.Cx.Cx) g.D.Cx.Input.PartialEq.eq c.args.cache.now c.insert-stored.new.self g.met.D.Cx.Cx.same_input c.args.input (place_of c.args.answer) (stored_from c.args.answer c.dep_node-token.result) g.D.Cx.Result.PartialEq.eq
+    c.args.drafts.now c.note_stored.new.self c.in_ok-note_stored.ensures.first c.in_ok-note_stored.ensures.noted
+    (subst (λ cache. HasGraph (verdicts g.D.Cx.Cx) cache.nodes c.args.input c.args.answer.result c.args.answer.node) (sym c.insert-stored.ensures.rest) (c.requires.storable.graph c.requires.no_heads))
+    c.insert-stored.result c.insert-stored.ensures.answer c.insert-stored.ensures.ok c.insert-stored.ensures.err (never_memory c.insert-stored.result (c.wants_memory.ensures.other c.if-wants_memory.false))
 
 pub returns-else-wants_memory-clause-fails : goal.returns-else-wants_memory-clause-fails
 returns-else-wants_memory-clause-fails g c =
@@ -56,3 +58,9 @@ returns-else-wants_memory-clause-fails g c =
     (place_of c.args.answer) (stored_at g.D.Cx.Input.PartialEq.eq c.args.cache.now.results c.args.input (place_of c.args.answer)) refl c.insert-stored.result c.insert-stored.ensures.answer))
     (storing_differs g.D.Cx.Result.PartialEq.eq c.args.input c.args.answer.result (stored_at g.D.Cx.Input.PartialEq.eq c.args.cache.now.results c.args.input (place_of c.args.answer)) c.insert-stored.result c.insert-stored.ensures.answer)
     (same_results c.insert-stored.result c.args.cache.now c.insert-stored.new.self c.insert-stored.ensures.err)
+
+pub returns-then-wants_memory-clause-whose : goal.returns-then-wants_memory-clause-whose
+returns-then-wants_memory-clause-whose g c = storing_finds g.D.Cx.Input.PartialEq.eq c.args.cache.now.results c.args.input (place_of c.args.answer) g.D.Cx.Result.PartialEq.eq c.args.answer.result c.insert-stored.result c.insert-stored.ensures.answer
+
+pub returns-else-wants_memory-clause-whose : goal.returns-else-wants_memory-clause-whose
+returns-else-wants_memory-clause-whose g c = storing_finds g.D.Cx.Input.PartialEq.eq c.args.cache.now.results c.args.input (place_of c.args.answer) g.D.Cx.Result.PartialEq.eq c.args.answer.result c.insert-stored.result c.insert-stored.ensures.answer

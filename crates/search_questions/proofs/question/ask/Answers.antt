@@ -1,18 +1,16 @@
-use Rattle.std.proofs.Common.{None, true, sym, ap, ◌∙◌, subst}
+use Rattle.std.proofs.Common.{◌≡◌, ◌||◌, None, true, refl, sym, ap, ◌∙◌, subst}
+use Rattle.std.specs.Option.{is_none}
 use Rattle.search_questions.specs.Below.{Answer, verdicts}
-use Rattle.search_questions.specs.Words.{AskingLeadsTo, Refused}
-use Rattle.search_questions.proofs.moves.Asking.{push_stops, refused_stops}
-use Rattle.between_moves.proofs.Keeping.{appending_keeps}
+use Rattle.search_questions.specs.Words.{AskingFails, AskingLeadsTo, NotAnsweredAt, NotRefused, Refused}
+use Rattle.search_questions.proofs.moves.Limits.{met_or, met_so}
+use Rattle.between_moves.proofs.Keeping.{appending_keeps, cache_stays}
 use Rattle.search_rules.proofs.moves.Questions.{asked_depth_fits, if_err, if_ok_then, none_of}
 use Rattle.search_rules.proofs.entries.Ready.{are_on_stack}
 use Rattle.search_questions.proofs.question.ask.Goals as goal
 
 -- the question is refused
-pub returns-in_default-clause-stops : goal.returns-in_default-clause-stops
-returns-in_default-clause-stops g c = λ call ahead h.
-    if_err c.refuse.result
-    (refused_stops g.D.Delegate g.D.Cx.Cx g.D.Cx.Input.PartialEq.eq c.args.cache.now.cx c.args.kind c.args.input c.args.cache.now c.args.evaluation.now (g.D.Delegate.starts c.args.inspect.now)
-    c.refuse.new.goals (none_of (λ d. d.0) c.allowed_depth.result c.in_default.not-Some ∙ c.allowed_depth.ensures) call ahead h)
+pub returns-in_default-clause-fails : goal.returns-in_default-clause-fails
+returns-in_default-clause-fails g c = if_err c.refuse.result (NotRefused c.refuse.new.goals (none_of (λ d. d.0) c.allowed_depth.result c.in_default.not-Some ∙ c.allowed_depth.ensures))
 
 pub returns-in_default-clause-asked : goal.returns-in_default-clause-asked
 returns-in_default-clause-asked g c =
@@ -31,11 +29,29 @@ pub ask_at-requires-clause-on_stack : goal.ask_at-requires-clause-on_stack
 ask_at-requires-clause-on_stack g c =
     are_on_stack (verdicts g.D.Cx.Cx) g.D.Cx.Input.PartialEq.eq (g.D.Delegate.script c.args.cache.now.cx) c.args.cache.now.nodes c.args.evaluation.now.provisional c.args.evaluation.now.goals c.requires.made.right.justified.tallies c.requires.made.right.ready
 
-pub returns-clause-stops : goal.returns-clause-stops
-returns-clause-stops g c = λ call ahead h.
+pub returns-clause-fails : goal.returns-clause-fails
+returns-clause-fails g c =
     if_err c.ask_at.result
-    (push_stops g.D.Delegate g.D.Cx.Cx g.D.Cx.Input.PartialEq.eq c.args.cache.now.cx c.args.kind c.args.input c.args.cache.now c.args.evaluation.now (g.D.Delegate.starts c.args.inspect.now) g.met.D.Delegate.divides c.in-Some.depth c.in-Some.ensures
-    c.ask_at.new.cache c.ask_at.new.evaluation (g.D.Delegate.starts c.ask_at.new.inspect) c.ask_at.ensures.cache c.ask_at.ensures.rest c.ask_at.ensures.builder.at_least c.ask_at.ensures.at_most call ahead h)
+    (subst (λ cache. AskingFails g.D.Delegate c.args.cache.now c.args.evaluation.now (g.D.Delegate.starts c.args.inspect.now) cache c.ask_at.new.evaluation (g.D.Delegate.starts c.ask_at.new.inspect)) (sym c.ask_at.ensures.cache)
+    (subst (λ after. AskingFails g.D.Delegate c.args.cache.now c.args.evaluation.now (g.D.Delegate.starts c.args.inspect.now) (record c.args.cache.now { nodes = c.ask_at.new.cache.nodes }) after (g.D.Delegate.starts c.ask_at.new.inspect)) (sym c.ask_at.ensures.rest)
+    (NotAnsweredAt c.in-Some.depth c.ask_at.new.evaluation.goals c.ask_at.new.evaluation.scopes c.ask_at.new.cache.nodes (g.D.Delegate.starts c.ask_at.new.inspect) c.in-Some.ensures c.ask_at.ensures.builder.at_least c.ask_at.ensures.at_most)))
 
-pub returns-clause-keeps : goal.returns-clause-keeps
-returns-clause-keeps g c = appending_keeps g.D.Cx.Input.PartialEq.eq c.args.evaluation.now.goals c.args.cache.now c.ask_at.new.cache c.ask_at.ensures.cache c.ask_at.ensures.kept
+pub returns-in_default-clause-asks : goal.returns-in_default-clause-asks
+returns-in_default-clause-asks g c = record {
+  cache = cache_stays g.D.Cx.Input.PartialEq.eq c.args.evaluation.now.goals c.args.cache.now;
+  same_results = refl;
+  same_drafts = refl;
+  meets =
+      subst (λ depth. true ≡ (c.args.evaluation.now.limits_met || is_none depth)) (none_of (λ d. d.0) c.allowed_depth.result c.in_default.not-Some ∙ c.allowed_depth.ensures)
+      (sym (met_so c.args.evaluation.now.limits_met));
+}
+
+pub returns-clause-asks : goal.returns-clause-asks
+returns-clause-asks g c = record {
+  cache = appending_keeps g.D.Cx.Input.PartialEq.eq c.args.evaluation.now.goals c.args.cache.now c.ask_at.new.cache c.ask_at.ensures.cache c.ask_at.ensures.kept;
+  same_results = ap (λ cache. cache.results) c.ask_at.ensures.cache;
+  same_drafts = ap (λ evaluation. evaluation.drafts) c.ask_at.ensures.rest;
+  meets =
+      subst (λ depth. c.ask_at.new.evaluation.limits_met ≡ (c.args.evaluation.now.limits_met || is_none depth)) c.in-Some.ensures
+      (ap (λ evaluation. evaluation.limits_met) c.ask_at.ensures.rest ∙ sym (met_or c.args.evaluation.now.limits_met));
+}

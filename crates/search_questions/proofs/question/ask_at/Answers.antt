@@ -2,7 +2,10 @@ use Rattle.std.proofs.Common.{arith, ◌≡◌, ◌≤◌, ◌+◌, ◌∷◌, O
 use Rattle.std.specs.Option.{IfSome, option_copied}
 use Rattle.search_questions.specs.Below.{Begin, CountsOne, fates_of, IsFated, hit_of, ClosesCycle}
 use Rattle.search_questions.specs.Words.{AskingLeadsTo, ByEntry, ByStored, OverCycle, Pushed}
+use Rattle.between_moves.proofs.Scopes.{holds_own}
+use Rattle.between_moves.specs.Scopes.{HoldsOwn}
 use Rattle.search_rules.proofs.moves.Questions.{if_ok_then}
+use Rattle.search_state.specs.Scopes.{held_over}
 use Rattle.search_questions.proofs.question.ask_at.Goals as goal
 
 -- what is there is as it is said of what is there
@@ -53,18 +56,21 @@ returns-in-Some-find-clause-asked g c =
 pub returns-clause-asked : goal.returns-clause-asked
 returns-clause-asked g c =
     let fate_is = c.consult_for-stored.ensures.consults.fate in
+    let held = c.begin_in_scope.new.scopes in
     if_ok_then c.begin_in_scope.result _ _ c.begin_in_scope.ensures.begins
     (λ received begins.
-    subst (λ given. AskingLeadsTo g.D.Delegate g.D.Cx.Cx g.D.Cx.Input.PartialEq.eq c.args.cache.now.cx c.args.kind c.args.input (g.D.Delegate.noop c.args.inspect.now) c.args.cache.now c.args.evaluation.now (g.D.Delegate.starts c.args.inspect.now) given c.push_goal.new.cache (record c.push_goal.new.evaluation { goals = c.begin_in_scope.new.goals }) (g.D.Delegate.starts c.push_goal.new.inspect)) (sym begins)
-    (subst (λ goals. AskingLeadsTo g.D.Delegate g.D.Cx.Cx g.D.Cx.Input.PartialEq.eq c.args.cache.now.cx c.args.kind c.args.input (g.D.Delegate.noop c.args.inspect.now) c.args.cache.now c.args.evaluation.now (g.D.Delegate.starts c.args.inspect.now) (record { reply = Begin; node = None }) c.push_goal.new.cache (record c.push_goal.new.evaluation { goals = goals }) (g.D.Delegate.starts c.push_goal.new.inspect)) (sym c.begin_in_scope.ensures.same)
-    (subst (λ cache. AskingLeadsTo g.D.Delegate g.D.Cx.Cx g.D.Cx.Input.PartialEq.eq c.args.cache.now.cx c.args.kind c.args.input (g.D.Delegate.noop c.args.inspect.now) c.args.cache.now c.args.evaluation.now (g.D.Delegate.starts c.args.inspect.now) (record { reply = Begin; node = None }) cache c.push_goal.new.evaluation (g.D.Delegate.starts c.push_goal.new.inspect)) (sym c.push_goal.ensures.cache)
-    (subst (λ after. AskingLeadsTo g.D.Delegate g.D.Cx.Cx g.D.Cx.Input.PartialEq.eq c.args.cache.now.cx c.args.kind c.args.input (g.D.Delegate.noop c.args.inspect.now) c.args.cache.now c.args.evaluation.now (g.D.Delegate.starts c.args.inspect.now) (record { reply = Begin; node = None }) (record c.args.cache.now { nodes = c.push_goal.new.cache.nodes }) after (g.D.Delegate.starts c.push_goal.new.inspect)) (sym c.push_goal.ensures.rest)
-    (Pushed c.args.depth c.push_goal.new.evaluation.goals c.push_goal.new.cache.nodes (g.D.Delegate.starts c.push_goal.new.inspect) c.requires.gets
+    subst (λ given. AskingLeadsTo g.D.Delegate g.D.Cx.Cx g.D.Cx.Input.PartialEq.eq c.args.cache.now.cx c.args.kind c.args.input (g.D.Delegate.noop c.args.inspect.now) c.args.cache.now c.args.evaluation.now (g.D.Delegate.starts c.args.inspect.now) given c.push_goal.new.cache (record c.push_goal.new.evaluation { scopes = held }) (g.D.Delegate.starts c.push_goal.new.inspect)) (sym begins.0)
+    (subst (λ cache. AskingLeadsTo g.D.Delegate g.D.Cx.Cx g.D.Cx.Input.PartialEq.eq c.args.cache.now.cx c.args.kind c.args.input (g.D.Delegate.noop c.args.inspect.now) c.args.cache.now c.args.evaluation.now (g.D.Delegate.starts c.args.inspect.now) (record { reply = Begin; node = None }) cache (record c.push_goal.new.evaluation { scopes = held }) (g.D.Delegate.starts c.push_goal.new.inspect)) (sym c.push_goal.ensures.cache)
+    (subst (λ after. AskingLeadsTo g.D.Delegate g.D.Cx.Cx g.D.Cx.Input.PartialEq.eq c.args.cache.now.cx c.args.kind c.args.input (g.D.Delegate.noop c.args.inspect.now) c.args.cache.now c.args.evaluation.now (g.D.Delegate.starts c.args.inspect.now) (record { reply = Begin; node = None }) (record c.args.cache.now { nodes = c.push_goal.new.cache.nodes }) (record after { scopes = held }) (g.D.Delegate.starts c.push_goal.new.inspect)) (sym c.push_goal.ensures.rest)
+    (Pushed c.args.depth c.push_goal.new.evaluation.goals held c.push_goal.new.cache.nodes (g.D.Delegate.starts c.push_goal.new.inspect) c.requires.gets
     (sym c.entry_for.ensures.found ∙ ap option_copied c.in_default.is)
     (sym c.consult_for-stored.ensures.consults.stored ∙ ap (option_map hit_of) c.in_default-stored.is)
     (sym c.find.ensures.present ∙ ap is_some c.in_default-find.is)
     c.in_ok-push_goal.ensures.pushed
     (subst (λ fate. fates_of c.push_goal.new.evaluation.goals ≡ record { goal = c.args.input; depth = c.args.depth.0; fate = fate } ∷ fates_of c.args.evaluation.now.goals) fate_is c.in_ok-push_goal.ensures.fates)
+    (subst (λ fate. HoldsOwn fate c.args.evaluation.now.scopes held) fate_is
+    (holds_own c.consult_for-stored.result.fate c.consult_for-stored.result.scope c.args.evaluation.now.scopes held c.consult_for-stored.ensures.scope
+    (begins.1 ∙ ap (λ e. held_over c.consult_for-stored.result.scope e.scopes) c.push_goal.ensures.rest)))
     (subst (λ fate. IsFated (g.D.Delegate.scoped c.args.cache.now.cx) (g.D.Delegate.script c.args.cache.now.cx) g.D.Cx.Input.PartialEq.eq c.args.cache.now.results (g.D.Delegate.noop c.args.inspect.now) (record { goal = c.args.input; depth = c.args.depth.0; fate = fate })) fate_is c.consult_for-stored.ensures.fated)
     (subst (λ n. g.D.Delegate.starts c.push_goal.new.inspect ≤ n + 1) c.consult_for-stored.ensures.same_starts c.push_goal.ensures.starts.at_most)
-    (subst (λ n. g.D.Delegate.counts ≡ true → CountsOne g.D.Delegate.last n (g.D.Delegate.starts c.push_goal.new.inspect)) c.consult_for-stored.ensures.same_starts c.in_ok-push_goal.ensures.starts.counted))))))
+    (subst (λ n. g.D.Delegate.counts ≡ true → CountsOne g.D.Delegate.last n (g.D.Delegate.starts c.push_goal.new.inspect)) c.consult_for-stored.ensures.same_starts c.in_ok-push_goal.ensures.starts.counted)))))

@@ -1,6 +1,6 @@
 use Rattle.std.proofs.Common.{◌≡◌, ◌∙◌, ap, sym, subst, None, Some}
 use Rattle.type_order.specs.Subtypes.{forms_of}
-use Rattle.type_texts.specs.Words.{AreComponents, HasStep, StaysInside, successor_lists, union_lists}
+use Rattle.type_texts.specs.Words.{AreComponents, HasStep, StaysInside, successor_lists}
 use Rattle.type_texts.proofs.Unions.{contractive, leads_back, stays_inside}
 use Rattle.type_texts.proofs.guard.unguarded_union.Goals as goal
 

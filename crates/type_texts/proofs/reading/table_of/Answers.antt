@@ -1,6 +1,5 @@
-use Rattle.std.proofs.Common.{refl, ap, sym, ◌∙◌, ◌+◌, subst}
-use Rattle.std.proofs.lemmas.Option.{slice_get_read}
-use Rattle.type_texts.specs.Words.{HasUndeclared, named_in, statement_of}
+use Rattle.std.proofs.Common.{refl, ◌∙◌}
+use Rattle.type_texts.specs.Words.{statement_of}
 use Rattle.type_texts.proofs.Lists.{map_take_more}
 use Rattle.type_texts.proofs.Short.{short_at}
 use Rattle.type_texts.proofs.Texts.{statement_at}

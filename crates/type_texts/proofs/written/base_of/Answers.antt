@@ -1,4 +1,4 @@
-use Rattle.std.proofs.Common.{◌≡◌, ◌∷◌, true, false, ap, not, refl, ◌∙◌}
+use Rattle.std.proofs.Common.{◌≡◌, true, false, ap, not, refl, ◌∙◌}
 use Rattle.std.specs.Prelude.{is_some}
 use Rattle.type_texts.specs.Words.{words_left}
 use Rattle.type_texts.proofs.Refusing.{base_alone, none_comes}

@@ -18,7 +18,7 @@ returns-clause-ran g c =
       drafts = c.begin.new.self.drafts;
       left = c.evaluate-outcome.new.evaluation;
       at_outset = record {
-        new = record { no_goals = refl; no_entries = refl; fits = c.begin.ensures.fits };
+        new = record { no_goals = refl; no_scopes = refl; no_entries = refl; fits = c.begin.ensures.fits };
         no_drafts = c.begin.ensures.drafts;
       };
       evaluated = rw c.begin.ensures.begins at c.evaluate-outcome.ensures.evaluated;

@@ -19,7 +19,7 @@ returns-clause-ran g c =
         drafts = c.new-drafts.result;
         left = after;
         at_outset = record {
-          new = record { no_goals = refl; no_entries = refl; fits = c.new-evaluation.ensures.fits };
+          new = record { no_goals = refl; no_scopes = refl; no_entries = refl; fits = c.new-evaluation.ensures.fits };
           no_drafts = c.new-drafts.ensures;
         };
         evaluated =
@@ -60,9 +60,12 @@ returns-clause-keeps g c = run_keeps (returns-clause-ran g c).1
 
 pub work_out-answer-requires-clause-outset : goal.work_out-answer-requires-clause-outset
 work_out-answer-requires-clause-outset g c = record {
-  new = rw c.new-evaluation.ensures.begins (record { no_goals = refl; no_entries = refl; fits = c.new-evaluation.ensures.fits });
+  new = rw c.new-evaluation.ensures.begins (record { no_goals = refl; no_scopes = refl; no_entries = refl; fits = c.new-evaluation.ensures.fits });
   no_drafts = subst (λ e. HasNoDrafts c.args.cache.now.nodes e.drafts) (sym c.new-evaluation.ensures.begins) c.new-drafts.ensures;
 }
+
+pub work_out-answer-requires-clause-in_scope : goal.work_out-answer-requires-clause-in_scope
+work_out-answer-requires-clause-in_scope g c = refl
 
 pub work_out-answer-requires-clause-fated : goal.work_out-answer-requires-clause-fated
 work_out-answer-requires-clause-fated g c = record { recorded = λ records. refl; expected = record { expected = tt; plain = λ n plain fits. tt } }

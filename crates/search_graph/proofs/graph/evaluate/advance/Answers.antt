@@ -1,7 +1,7 @@
 use Rattle.std.proofs.Common.{refl, sym, subst}
 use Rattle.search_graph.specs.Below.{CanStep, Done, Evaluate}
 use Rattle.search_graph.proofs.ran.Making.{asks, ends, fails_in_frame, fails_to_ask, fails_to_note, notes}
-use Rattle.search_graph.proofs.requests.Advancing.{has_expected, has_request}
+use Rattle.search_graph.proofs.requests.Advancing.{has_expected, has_held, has_request}
 use Rattle.search_graph.proofs.requests.Noted.{about_candidates, can_note}
 use Rattle.search_graph.proofs.turns.Loops.{stepped_some}
 use Rattle.search_rules.proofs.moves.Moves.{can_step, some_waits}
@@ -32,14 +32,14 @@ pub returns-in_err-next-in-Evaluate-clause-advanced : goal.returns-in_err-next-i
 returns-in_err-next-in-Evaluate-clause-advanced g c =
     fails_to_ask g.D.Delegate g.D.Cx.Cx g.D.Cx.Input.PartialEq.eq g.D.Cx.Result.PartialEq.eq (g.D.Delegate.noop c.args.inspect.now) c.args.received c.args.cache.now c.args.evaluation.now (g.D.Delegate.starts c.args.inspect.now) c.cx-cx.result c.cx-cx.ensures
     c.in_ok-request.request c.step.new.goals c.in_ok-request.ensures.stepped (g.D.Delegate.starts c.step.new.inspect) c.step.ensures.same_starts c.ask.new.cache c.ask.new.evaluation (g.D.Delegate.starts c.ask.new.inspect) c.in-Evaluate.kind c.in-Evaluate.input c.in-Evaluate.is
-    (record { cache = c.ask.ensures.keeps; same_results = c.ask.ensures.same_results; same_drafts = c.ask.ensures.same_drafts; meets = c.ask.ensures.meets })
-    c.in_err-next-in-Evaluate.ensures.stops c.from_residual-in_err-next-in-Evaluate.result c.from_residual-in_err-next-in-Evaluate.ensures.1
+    c.ask.ensures.asks
+    c.in_err-next-in-Evaluate.ensures.fails c.from_residual-in_err-next-in-Evaluate.result c.from_residual-in_err-next-in-Evaluate.ensures.1
 
 pub returns-in_ok-next-in-Evaluate-clause-advanced : goal.returns-in_ok-next-in-Evaluate-clause-advanced
 returns-in_ok-next-in-Evaluate-clause-advanced g c =
     asks g.D.Delegate g.D.Cx.Cx g.D.Cx.Input.PartialEq.eq g.D.Cx.Result.PartialEq.eq (g.D.Delegate.noop c.args.inspect.now) c.args.received c.args.cache.now c.args.evaluation.now (g.D.Delegate.starts c.args.inspect.now) c.cx-cx.result c.cx-cx.ensures
     c.in_ok-request.request c.step.new.goals c.in_ok-request.ensures.stepped (g.D.Delegate.starts c.step.new.inspect) c.step.ensures.same_starts c.ask.new.cache c.ask.new.evaluation (g.D.Delegate.starts c.ask.new.inspect) c.in-Evaluate.kind c.in-Evaluate.input c.in-Evaluate.is
-    (record { cache = c.ask.ensures.keeps; same_results = c.ask.ensures.same_results; same_drafts = c.ask.ensures.same_drafts; meets = c.ask.ensures.meets })
+    c.ask.ensures.asks
     (g.D.Delegate.noop c.step.new.inspect) c.step.ensures.same_noop c.in_ok-next-in-Evaluate.next c.in_ok-next-in-Evaluate.ensures.asked
 
 -- ---- the end of a run
@@ -49,6 +49,9 @@ finish_run-requires-clause-made g c = has_request g.D.Delegate g.D.Cx.Cx g.D.Cx.
 
 pub finish_run-requires-clause-expected : goal.finish_run-requires-clause-expected
 finish_run-requires-clause-expected g c = has_expected g.D.Delegate g.D.Cx.Cx g.D.Cx.Input.PartialEq.eq c.args.cache.now.cx c.args.cache.now c.args.evaluation.now c.args.received c.cx-cx.result c.cx-cx.ensures c.in_ok-request.request c.step.new.goals c.in_ok-request.ensures.stepped c.requires.expected
+
+pub finish_run-requires-clause-held : goal.finish_run-requires-clause-held
+finish_run-requires-clause-held g c = has_held g.D.Delegate g.D.Cx.Cx g.D.Cx.Input.PartialEq.eq c.args.cache.now.cx c.args.cache.now c.args.evaluation.now c.args.received c.cx-cx.result c.cx-cx.ensures c.in_ok-request.request c.step.new.goals c.in_ok-request.ensures.stepped c.requires.held
 
 pub returns-in-Done-clause-advanced : goal.returns-in-Done-clause-advanced
 returns-in-Done-clause-advanced g c =

@@ -11,6 +11,9 @@ advance-requires-clause-reply g c = c.requires.reply
 pub advance-requires-clause-expected : goal.advance-requires-clause-expected
 advance-requires-clause-expected g c = c.requires.expected
 
+pub advance-requires-clause-held : goal.advance-requires-clause-held
+advance-requires-clause-held g c = c.requires.held
+
 -- ---- nodes are let go before the next turn
 
 pub collect_drafts-requires-clause-before : goal.collect_drafts-requires-clause-before

@@ -20,7 +20,7 @@ pub returns-in_err-tell-clause-beginning : goal.returns-in_err-tell-clause-begin
 returns-in_err-tell-clause-beginning g c =
     let so_far = c.loop-question.invariant in
     let right = AreRight c.args.table.now in
-    let more = one_more_right c.args.table.now _ _ _ so_far.0 c.ask-came.ensures.told in
+    let more = one_more_right c.args.table.now _ _ c.ask-came.ensures.told in
     let fine = ap (λ b. c.loop-question.all_fine && b) c.is_ok-all_fine.ensures.value in
     on_err _ (first_told (line_of c.args.table.now) is_ok right _ _ _ _ _ right (λ all h. h) _ _ _ c.questions-questions.ensures
     (line_waits (line_of c.args.table.now) is_ok right right _ more _ _ _ c.loop-question-test.true refl _ _ fine _ _ _ _ so_far.1 refl)
@@ -30,7 +30,7 @@ pub loop-question-preserved : goal.loop-question-preserved
 loop-question-preserved g c =
     let so_far = c.loop-question.invariant in
     let right = AreRight c.args.table.now in
-    let more = one_more_right c.args.table.now _ _ _ so_far.0 c.ask-came.ensures.told in
+    let more = one_more_right c.args.table.now _ _ c.ask-came.ensures.told in
     let fine = ap (λ b. c.loop-question.all_fine && b) c.is_ok-all_fine.ensures.value in (
       c.ask-came.ensures.same_types ∙ so_far.0,
       told_on (line_of c.args.table.now) is_ok right _ _ _ _ _ _ _

@@ -1,6 +1,16 @@
 use Rattle.std.proofs.Common.{◌≡◌}
 use Rattle.structural_types.specs.Asked.{declared_in}
+use Rattle.subtypes.specs.Search.{IsAt, IsSearch, types_in}
+use Rattle.subtypes.proofs.Searching.{AreFollowed}
+use Rattle.type_texts.specs.Table.{forms_in}
 use Rattle.subtypes.proofs.program.reason.reason_of.Given as goal
 
+-- the pairs before this place were followed
 abbrev pub invariant-loop-place : goal.invariant-loop-place
-invariant-loop-place g l = declared_in g.T.LendsTypes.types_of l.subtyping ≡ declared_in g.T.LendsTypes.types_of l.fn.subtyping
+invariant-loop-place g l = record {
+  ongoing : IsSearch l.search;
+  first : IsAt l.search 0 l.fn.pair;
+  of_table : types_in l.search ≡ forms_in l.table;
+  followed : AreFollowed l.search l.place;
+  same_types : declared_in g.T.LendsTypes.types_of l.subtyping ≡ declared_in g.T.LendsTypes.types_of l.fn.subtyping;
+}

@@ -1,4 +1,4 @@
-use Rattle.std.proofs.Common.{◌≡◌, Some, arith, refl}
+use Rattle.std.proofs.Common.{arith, refl}
 use Rattle.type_texts.proofs.table.TypeTable.number_of.Goals as goal
 
 pub returns-in-None-clause-undeclared : goal.returns-in-None-clause-undeclared

@@ -1,7 +1,7 @@
-use Rattle.std.proofs.Common.{Ok, ap, map, subst, sym, ◌∙◌}
-use Rattle.type_texts.specs.Words.{AreDistinct, statement_of}
+use Rattle.std.proofs.Common.{◌≡◌, Ok, ap, map, subst, sym, ◌∙◌}
+use Rattle.type_texts.specs.Words.{AreDistinct, DeclaresType, statement_of}
 use Rattle.type_texts.proofs.Short.{all_short}
-use Rattle.type_texts.proofs.Texts.{all_declared, as_many_forms}
+use Rattle.type_texts.proofs.Texts.{all_declared, as_many_forms, unguarded_is_declared}
 use Rattle.type_texts.proofs.table.TypeTable.read.Goals as goal
 
 pub unguarded_union-requires-clause-declared : goal.unguarded_union-requires-clause-declared
@@ -14,15 +14,24 @@ unguarded_union-requires-clause-all c =
     c.count.ensures ∙ as_many_forms (map statement_of c.in_ok-lines.lines.items) c.in_ok-table.table (rw c.as_slice-2.ensures.value at c.in_ok-table.ensures.table)
     (c.in_ok-table.ensures.names ∙ (rw c.as_slice.ensures.value at c.in_ok-names.ensures.names))
 
+-- what is a union of itself is declared
+pub line_declaring-requires : goal.line_declaring-requires
+line_declaring-requires c =
+    let is_union = c.in_ok-number.ensures.some c.in-Some.number (ap Ok c.in-Some.is) in
+    rw c.as_slice-in-Some.ensures.value (unguarded_is_declared (map statement_of c.in_ok-lines.lines.items) c.in_ok-table.table c.in-Some.number
+    (rw c.as_slice-2.ensures.value at c.in_ok-table.ensures.table) is_union)
+
 pub returns-in-Some-clause-unguarded : goal.returns-in-Some-clause-unguarded
-returns-in-Some-clause-unguarded c = λ n e. record {
-  statements = map statement_of c.in_ok-lines.lines.items;
-  lines = c.in_ok-lines.ensures.lines;
-  table = c.in_ok-table.table;
-  is_table = rw c.as_slice-2.ensures.value at c.in_ok-table.ensures.table;
-  number = c.in-Some.number;
-  is_union = c.in_ok-number.ensures.some c.in-Some.number (ap Ok c.in-Some.is);
-}
+returns-in-Some-clause-unguarded c = λ n e.
+    let same : c.line_declaring.result ≡ n = cc in record {
+      statements = map statement_of c.in_ok-lines.lines.items;
+      lines = c.in_ok-lines.ensures.lines;
+      table = c.in_ok-table.table;
+      is_table = rw c.as_slice-2.ensures.value at c.in_ok-table.ensures.table;
+      type = c.in-Some.number;
+      is_declared = subst (DeclaresType (map statement_of c.in_ok-lines.lines.items) c.in-Some.number) same (rw c.as_slice-in-Some.ensures.value at c.line_declaring.ensures);
+      is_union = c.in_ok-number.ensures.some c.in-Some.number (ap Ok c.in-Some.is);
+    }
 
 pub returns-clause-read : goal.returns-clause-read
 returns-clause-read c =

@@ -1,4 +1,4 @@
-use Rattle.std.proofs.Common.{◌∷◌, map, sym, ◌∙◌}
+use Rattle.std.proofs.Common.{sym, ◌∙◌}
 use Rattle.std.proofs.lemmas.Bool.{false≢true}
 use Rattle.std.proofs.lemmas.List.{map-append}
 use Rattle.type_texts.specs.Words.{words_left}

@@ -1,6 +1,15 @@
 use Rattle.std.proofs.Common.{◌≡◌}
 use Rattle.structural_types.specs.Asked.{declared_in}
+use Rattle.subtypes.specs.Search.{AreCovered, GoesOn, IsSearch, types_in}
+use Rattle.subtypes.proofs.Searching.{IsAmongFirst}
+use Rattle.type_order.specs.Rule.{pairs_of}
 use Rattle.subtypes.proofs.program.reason.Search.follow.Given as goal
 
-abbrev pub invariant-loop-left : goal.invariant-loop-left
-invariant-loop-left g l = declared_in g.T.LendsTypes.types_of l.subtyping ≡ declared_in g.T.LendsTypes.types_of l.fn.subtyping
+-- the first that is asked was looked at
+abbrev pub invariant-loop-asked : goal.invariant-loop-asked
+invariant-loop-asked g l = record {
+  ongoing : IsSearch l.self;
+  goes_on : GoesOn l.fn.self l.self;
+  covered : AreCovered l.self (IsAmongFirst (pairs_of (types_in l.fn.self) l.pair) l.asked);
+  same_types : declared_in g.T.LendsTypes.types_of l.subtyping ≡ declared_in g.T.LendsTypes.types_of l.fn.subtyping;
+}

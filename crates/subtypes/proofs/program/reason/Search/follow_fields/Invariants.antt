@@ -1,6 +1,0 @@
-use Rattle.std.proofs.Common.{◌≡◌}
-use Rattle.structural_types.specs.Asked.{declared_in}
-use Rattle.subtypes.proofs.program.reason.Search.follow_fields.Given as goal
-
-abbrev pub invariant-loop-other : goal.invariant-loop-other
-invariant-loop-other g l = declared_in g.T.LendsTypes.types_of l.subtyping ≡ declared_in g.T.LendsTypes.types_of l.fn.subtyping
