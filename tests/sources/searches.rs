@@ -6,7 +6,7 @@
 //! | `validation` | stored results that are validated |
 //! | `frames` | frames that are refused memory |
 //! | `lists` | a long list of queries with faults among them |
-//! | `uses` | games, blocks that a write may reach, shapes, and subtypes |
+//! | `uses` | games, services, blocks that a write may reach, shapes, and subtypes |
 //!
 //! `asking` asks goals on a graph of their own, `stored` tells what is stored of a table's goals, and `handed_out` has the graphs that are handed out for them, and the
 //! checker's word on any graph.

@@ -16,7 +16,8 @@ check_words Refused = codes " unchecked"
 
 -- what follows the name: ` yes 3 checked`, and a newline
 abbrev pub told_words : Told → List ℕ
-told_words told = codes " " ++ word_of told.outcome ++ codes " " ++ decimal told.started ++ check_words told.check ++ codes "\n"
+told_words told =
+    codes " " ++ word_of told.outcome ++ codes " " ++ decimal told.started ++ check_words told.check ++ codes "\n"
 
 -- the same, or ` fault memory` and a newline
 abbrev pub words_of_answer : {I : Type 0} → Result Told (Fault I Outcome) → List ℕ

@@ -5,6 +5,7 @@ use Rattle.std.specs.Option.{IfSome}
 use Rattle.between_moves.specs.Below.{NodeId}
 use Rattle.search_rules.specs.Live.{IsLiveNode}
 
-pub live_root : (live : ℕ → Bool) (roots : List NodeId) → ((n : NodeId) → Contains roots n → IsTrue (live n.0)) → (node : Option NodeId) → IfSome node (Contains roots) → IsLiveNode live node
+pub live_root : (live : ℕ → Bool) (roots : List NodeId) → ((n : NodeId) → Contains roots n → IsTrue (live n.0))
+    → (node : Option NodeId) → IfSome node (Contains roots) → IsLiveNode live node
 live_root live roots are None h = tt
 live_root live roots are (Some n) h = are n h

@@ -5,7 +5,8 @@ use Rattle.run_records.specs.declared.runs.Fate.TheVariants as becomes
 use Rattle.search_rules.specs.Fates.{Fated}
 
 module _ {R V : Type 0} where
-  -- A goal with this fate holds a scope of its own over those that were held below it, if its result is to be compared, and else none.
+  -- A goal with this fate holds a scope of its own over those that were held below it, if its result is to be
+  -- compared, and else none.
   abbrev pub HoldsOwn : Fate R → (below held : List V) → Type 0
   HoldsOwn (becomes.Compared r) below held = (scope : V) × (held ≡ scope ∷ below)
   HoldsOwn _ below held = held ≡ below

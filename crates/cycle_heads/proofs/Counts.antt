@@ -1,5 +1,6 @@
 -- Usages are told by their four counts.
-use Rattle.std.proofs.Common.{◌≡◌, ◌≢◌, ◌≤◌, ◌↔◌, ℕ, ◌&&◌, ◌==◌, Bool, true, not, IsTrue, if◌then◌else◌, refl, sym, ◌∙◌, ap, inl, inr, arith, ne_eqb}
+use Rattle.std.proofs.Common.{◌≡◌, ◌≢◌, ◌≤◌, ◌↔◌, ℕ, ◌&&◌, ◌==◌, Bool, true, not, IsTrue, if◌then◌else◌, refl, sym, ◌∙◌}
+use Rattle.std.proofs.Common.{ap, inl, inr, arith, ne_eqb}
 use Rattle.std.proofs.lemmas.Grind.{common_steps}
 use Rattle.std.proofs.lemmas.Bool.Decides.{eqb_tells, same_from_decides}
 use Rattle.cycle_heads.specs.Words.{HeadUsages, count_of, usages_by, other_usages, no_usages, has_usages}
@@ -12,10 +13,12 @@ HasNone usages = (kind : PathKind) → count_of usages kind ≡ 0
 -- usages are none exactly if they equal the default ones
 pub none_by_test : (usages zero : HeadUsages) (test : Bool)
     → zero.inductive ≡ 0 → zero.unknown ≡ 0 → zero.coinductive ≡ 0 → zero.forced_ambiguity ≡ 0
-    → test ≡ ((usages.inductive == zero.inductive) && ((usages.unknown == zero.unknown) && ((usages.coinductive == zero.coinductive) && (usages.forced_ambiguity == zero.forced_ambiguity))))
+    → test ≡ ((usages.inductive == zero.inductive) && ((usages.unknown == zero.unknown)
+    && ((usages.coinductive == zero.coinductive) && (usages.forced_ambiguity == zero.forced_ambiguity))))
     → IsTrue test ↔ HasNone usages
 none_by_test usages zero test i u c f e = (
-  λ h. each_kind (λ kind. count_of usages kind ≡ 0) (grind (arith, common_steps)) (grind (arith, common_steps)) (grind (arith, common_steps)) (grind (arith, common_steps)),
+  λ h. each_kind (λ kind. count_of usages kind ≡ 0) (grind (arith, common_steps)) (grind (arith, common_steps))
+      (grind (arith, common_steps)) (grind (arith, common_steps)),
   λ h. let hi : usages.inductive ≡ 0 = h Inductive in
       let hu : usages.unknown ≡ 0 = h Unknown in
       let hc : usages.coinductive ≡ 0 = h Coinductive in
@@ -45,13 +48,17 @@ pub counts_within : (some more : HeadUsages) → some.inductive ≤ more.inducti
     → (kind : PathKind) → count_of some kind ≤ count_of more kind
 counts_within some more = each_kind (λ kind. count_of some kind ≤ count_of more kind)
 
-none_tested : (i u c f : ℕ) → ((i == 0) && (u == 0) && (c == 0) && (f == 0)) ≡ true → (i ≡ 0) × (u ≡ 0) × (c ≡ 0) × (f ≡ 0)
-none_tested i u c f test = (grind (arith, common_steps), grind (arith, common_steps), grind (arith, common_steps), grind (arith, common_steps))
+none_tested : (i u c f : ℕ) → ((i == 0) && (u == 0) && (c == 0) && (f == 0)) ≡ true
+    → (i ≡ 0) × (u ≡ 0) × (c ≡ 0) × (f ≡ 0)
+none_tested i u c f test =
+    (grind (arith, common_steps), grind (arith, common_steps), grind (arith, common_steps), grind (arith, common_steps))
 
 -- where usages are none exactly if a test says so, there are some exactly if it doesn't
-pub used_by_test : (usages : HeadUsages) (test : Bool) → (IsTrue test ↔ ((kind : PathKind) → count_of usages kind ≡ 0)) → not test ≡ has_usages usages
+pub used_by_test : (usages : HeadUsages) (test : Bool)
+    → (IsTrue test ↔ ((kind : PathKind) → count_of usages kind ≡ 0)) → not test ≡ has_usages usages
 used_by_test usages test tells =
-    ap not (same_from_decides test ((usages.inductive == 0) && (usages.unknown == 0) && (usages.coinductive == 0) && (usages.forced_ambiguity == 0)) tells (
+    ap not (same_from_decides test ((usages.inductive == 0) && (usages.unknown == 0) && (usages.coinductive == 0)
+    && (usages.forced_ambiguity == 0)) tells (
       λ h. let each = none_tested usages.inductive usages.unknown usages.coinductive usages.forced_ambiguity h in
           each_kind (λ kind. count_of usages kind ≡ 0) each.0 each.1 each.2 each.3,
       λ none.
@@ -64,11 +71,14 @@ used_by_test usages test tells =
 
 -- a test of whether there were cycles of one kind alone tells whether there were others
 pub others_by_test : (usages : HeadUsages) (kind : PathKind) (test : Bool)
-    → (IsTrue test ↔ ((other : PathKind) → other ≢ kind → count_of usages other ≡ 0)) → not test ≡ has_usages (other_usages usages kind)
+    → (IsTrue test ↔ ((other : PathKind) → other ≢ kind → count_of usages other ≡ 0))
+    → not test ≡ has_usages (other_usages usages kind)
 others_by_test usages kind test tells =
     let others = none_of_others usages kind in
     used_by_test (other_usages usages kind) test (λ h. others.1 (tells.0 h), λ h. tells.1 (others.0 h))
 
 -- usages without a count are none
-pub none_by_counts : (usages : HeadUsages) → usages.inductive ≡ 0 → usages.unknown ≡ 0 → usages.coinductive ≡ 0 → usages.forced_ambiguity ≡ 0 → usages ≡ no_usages
-none_by_counts usages a b c d = λ i. record { inductive = a i; unknown = b i; coinductive = c i; forced_ambiguity = d i }
+pub none_by_counts : (usages : HeadUsages) → usages.inductive ≡ 0 → usages.unknown ≡ 0 → usages.coinductive ≡ 0
+    → usages.forced_ambiguity ≡ 0 → usages ≡ no_usages
+none_by_counts usages a b c d =
+    λ i. record { inductive = a i; unknown = b i; coinductive = c i; forced_ambiguity = d i }

@@ -1,5 +1,6 @@
 -- Lists of what is recorded by depth.
-use Rattle.std.proofs.Common.{◌≡◌, ◌≢◌, ℕ, zero, suc, ◌+◌, ◌<◌, drop, get_or, length, subst, ◌∙◌, true, false, List, [], ◌∷◌, Some, None, IsSome, cond, refl, ap, inl, inr, arith, lt-ltb, le-ltb, eq-eqb, ne_eqb}
+use Rattle.std.proofs.Common.{◌≡◌, ◌≢◌, ℕ, zero, suc, ◌+◌, ◌<◌, drop, get_or, length, subst, ◌∙◌, true, false, List, []}
+use Rattle.std.proofs.Common.{◌∷◌, Some, None, IsSome, cond, refl, ap, inl, inr, arith, lt-ltb, le-ltb, eq-eqb, ne_eqb}
 use Rattle.std.proofs.Math.Seq.{drop-cons}
 use Rattle.std.proofs.lemmas.Bool.{cases_lt, cases_eq, false≢true}
 use Rattle.std.proofs.lemmas.Map.Keys.{sorted_head, sorted_tail}
@@ -49,7 +50,8 @@ rising_from (e ∷ es) (suc i) rising = rising_from es i (rising_later e.0 e.1 e
 pub next_entry : {A : Type 0} (entries : List (StackDepth × A)) (i : ℕ) (e : StackDepth × A) → i < length entries
     → drop i entries ≡ ((get_or entries i e).0, (get_or entries i e).1) ∷ drop (i + 1) entries
 next_entry entries i e within =
-    subst (λ n. drop i entries ≡ ((get_or entries i e).0, (get_or entries i e).1) ∷ drop n entries) {x = suc i} (omega arith)
+    subst (λ n. drop i entries ≡ ((get_or entries i e).0, (get_or entries i e).1) ∷ drop n entries)
+    {x = suc i} (omega arith)
     (drop-cons entries i e within ∙ ap (λ first. first ∷ drop (suc i) entries) (same_pair (get_or entries i e)))
   where
     same_pair : {A : Type 0} (e : StackDepth × A) → e ≡ (e.0, e.1)
@@ -57,7 +59,13 @@ next_entry entries i e within =
 
 -- what a loop reads where there is no entry
 abbrev pub no_head : StackDepth × CycleHead
-no_head = (record { 0 = 0 }, record { paths_to_head = record { 0 = 0 }; usages = record { inductive = 0; unknown = 0; coinductive = 0; forced_ambiguity = 0 } })
+no_head = (
+  record { 0 = 0 },
+  record {
+    paths_to_head = record { 0 = 0 };
+    usages = record { inductive = 0; unknown = 0; coinductive = 0; forced_ambiguity = 0 };
+  },
+)
 
 abbrev pub no_counts : StackDepth × HeadUsages
 no_counts = (record { 0 = 0 }, record { inductive = 0; unknown = 0; coinductive = 0; forced_ambiguity = 0 })
@@ -67,7 +75,8 @@ pub at_depth-first : {A : Type 0} (depth : StackDepth) (value : A) (rest : List 
     → at_depth ((depth, value) ∷ rest) depth ≡ Some value
 at_depth-first depth value rest = rw (tied depth.0 depth.0 refl) refl
 
-pub at_depth-rest : {A : Type 0} (depth other : StackDepth) (value : A) (rest : List (StackDepth × A)) → other.0 ≢ depth.0
+pub at_depth-rest :
+    {A : Type 0} (depth other : StackDepth) (value : A) (rest : List (StackDepth × A)) → other.0 ≢ depth.0
     → at_depth ((depth, value) ∷ rest) other ≡ at_depth rest other
 at_depth-rest depth other value rest ne = rw (apart other.0 depth.0 ne) refl
 
@@ -85,7 +94,8 @@ module _ {A : Type 0} (depth : StackDepth) (value : A) where
   placed_later e es more = rw (le-ltb depth.0 e.0.0 (omega arith), ne_eqb depth.0 e.0.0 (omega arith)) refl
 
   -- what is inserted is found at its depth
-  pub at_depth-insert_same : (entries : List (StackDepth × A)) → at_depth (insert_entry depth_cmp entries depth value) depth ≡ Some value
+  pub at_depth-insert_same : (entries : List (StackDepth × A))
+      → at_depth (insert_entry depth_cmp entries depth value) depth ≡ Some value
   at_depth-insert_same [] = rw (tied depth.0 depth.0 refl) refl
   at_depth-insert_same (e ∷ es) = elim (cases_lt depth.0 e.0.0) [
     | inl less ↦ rw (placed_first e es less, tied depth.0 depth.0 refl) refl
@@ -103,7 +113,8 @@ module _ {A : Type 0} (depth : StackDepth) (value : A) where
     | inl less ↦ rw (placed_first e es less, apart other.0 depth.0 ne) refl
     | inr at_least ↦ elim (cases_eq depth.0 e.0.0) [
       | inl same ↦ rw (placed_here e es same, apart other.0 e.0.0 (λ e. ne (omega arith))) refl
-      | inr later ↦ rw (placed_later e es (omega arith)) (ap (cond (is_at (depth_cmp other) e.0) (Some e.1)) (at_depth-insert_other es other ne))
+      | inr later ↦ rw (placed_later e es (omega arith))
+          (ap (cond (is_at (depth_cmp other) e.0) (Some e.1)) (at_depth-insert_other es other ne))
     ]
   ]
 
@@ -113,7 +124,8 @@ module _ {A : Type 0} (depth : StackDepth) (value : A) where
   at_depth-set_same [] there = absurd (false≢true there)
   at_depth-set_same (e ∷ es) there = elim (cases_eq depth.0 e.0.0) [
     | inl same ↦ rw (tied depth.0 e.0.0 same, tied depth.0 e.0.0 same) refl
-    | inr ne ↦ rw (apart depth.0 e.0.0 ne, apart depth.0 e.0.0 ne) (at_depth-set_same es (rw (apart depth.0 e.0.0 ne) at there))
+    | inr ne ↦ rw (apart depth.0 e.0.0 ne, apart depth.0 e.0.0 ne)
+        (at_depth-set_same es (rw (apart depth.0 e.0.0 ne) at there))
   ]
 
   pub at_depth-set_other : (entries : List (StackDepth × A)) (other : StackDepth) → other.0 ≢ depth.0
@@ -121,5 +133,6 @@ module _ {A : Type 0} (depth : StackDepth) (value : A) where
   at_depth-set_other [] other ne = refl
   at_depth-set_other (e ∷ es) other ne = elim (cases_eq depth.0 e.0.0) [
     | inl same ↦ rw (tied depth.0 e.0.0 same, apart other.0 e.0.0 (λ e. ne (omega arith))) refl
-    | inr later ↦ rw (apart depth.0 e.0.0 later) (ap (cond (is_at (depth_cmp other) e.0) (Some e.1)) (at_depth-set_other es other ne))
+    | inr later ↦ rw (apart depth.0 e.0.0 later)
+        (ap (cond (is_at (depth_cmp other) e.0) (Some e.1)) (at_depth-set_other es other ne))
   ]

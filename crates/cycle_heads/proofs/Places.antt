@@ -1,5 +1,7 @@
 -- What a search by depth finds, and what an edit at that place does.
-use Rattle.std.proofs.Common.{◌≡◌, ℕ, zero, suc, ◌-◌, ◌<◌, ◌≤◌, List, [], ◌∷◌, ◌++◌, length, get_or, set, true, Option, Some, None, IsSome, Result, Ok, Err, IsOk, refl, sym, ap, subst, ◌∙◌, inl, inr, arith, lt-ltb, le-ltb, eq-eqb, ne_eqb}
+use Rattle.std.proofs.Common.{◌≡◌, ℕ, zero, suc, ◌-◌, ◌<◌, ◌≤◌, List, [], ◌∷◌, ◌++◌, length, get_or, set, true, Option}
+use Rattle.std.proofs.Common.{Some, None, IsSome, Result, Ok, Err, IsOk, refl, sym, ap, subst, ◌∙◌, inl, inr, arith}
+use Rattle.std.proofs.Common.{lt-ltb, le-ltb, eq-eqb, ne_eqb}
 use Rattle.std.proofs.lemmas.Bool.{cases_lt, cases_eq, false≢true}
 use Rattle.std.proofs.lemmas.Bool.Decides.{nat_tests}
 use Rattle.std.proofs.lemmas.Cmp.{ranked}
@@ -19,21 +21,28 @@ use Rattle.std.specs.declared.cmp.Ordering.{Ordering}
 use Rattle.std.specs.declared.cmp.Ordering.TheVariants.{Less, Equal, Greater}
 use Rattle.cycle_heads.specs.Words.{AreBelow, StackDepth, at_depth, depth_cmp, IsRising, place_of}
 use Rattle.cycle_heads.specs.Places.{one_later}
-use Rattle.cycle_heads.proofs.HeadLists.{at_depth-rest, placed_first, placed_here, placed_later, absent_below, rising_later}
+use Rattle.cycle_heads.proofs.HeadLists.{at_depth-rest, placed_first, placed_here, placed_later}
+use Rattle.cycle_heads.proofs.HeadLists.{absent_below, rising_later}
 
-pub rising_at : {A : Type 0} (entries : List (StackDepth × A)) → IsRising entries → (i j : ℕ) (e : StackDepth × A) → i < j → j < length entries → (get_or entries i e).0.0 < (get_or entries j e).0.0
+pub rising_at : {A : Type 0} (entries : List (StackDepth × A)) → IsRising entries → (i j : ℕ) (e : StackDepth × A)
+    → i < j → j < length entries → (get_or entries i e).0.0 < (get_or entries j e).0.0
 rising_at entries rising i j e lt within =
-    let here = Less-from_sorted depth_cmp (keys_of entries) i j e.0 rising lt (rw (length-map entries (λ e. e.0)) within) in
-    ranked _ _ Less (sym (rw (get_or-map (λ e. e.0) entries i e e.0 (omega arith), get_or-map (λ e. e.0) entries j e e.0 within) at here))
+    let here =
+    Less-from_sorted depth_cmp (keys_of entries) i j e.0 rising lt (rw (length-map entries (λ e. e.0)) within) in
+    ranked _ _ Less (sym
+    (rw (get_or-map (λ e. e.0) entries i e e.0 (omega arith), get_or-map (λ e. e.0) entries j e e.0 within) at here))
 
 -- what is read at a place stands there
-pub there : {A : Type 0} (xs : List A) (i : ℕ) (x : A) → (i < length xs) × ((d : A) → x ≡ get_or xs i d) → slice_get xs i ≡ Some x
+pub there : {A : Type 0} (xs : List A) (i : ℕ) (x : A)
+    → (i < length xs) × ((d : A) → x ≡ get_or xs i d) → slice_get xs i ≡ Some x
 there xs i x read = slice_get_read xs (length xs) i x refl read.0 (read.1 x)
 
 -- ---- the place of a depth, one entry at a time
 
 -- one more depth before greater ones
-one_more : (first : StackDepth) (depths : List StackDepth) → AllByRecursion (λ other. depth_cmp first other ≡ Less) depths → IsStrictlySortedBy depth_cmp depths → IsStrictlySortedBy depth_cmp (first ∷ depths)
+one_more : (first : StackDepth) (depths : List StackDepth)
+    → AllByRecursion (λ other. depth_cmp first other ≡ Less) depths → IsStrictlySortedBy depth_cmp depths
+    → IsStrictlySortedBy depth_cmp (first ∷ depths)
 unfolding IsStrictlySortedBy
 one_more first depths below sorted = (below, sorted)
 
@@ -58,7 +67,8 @@ module _ {A : Type 0} (depth : StackDepth) where
   module _ (P : Result ℕ ℕ → List (StackDepth × A) → Type 0) (none : P (Err 0) [])
       (before : (e : StackDepth × A) (es : List (StackDepth × A)) → depth.0 < e.0.0 → P (Err 0) (e ∷ es))
       (here : (e : StackDepth × A) (es : List (StackDepth × A)) → depth.0 ≡ e.0.0 → P (Ok 0) (e ∷ es))
-      (later : (e : StackDepth × A) (es : List (StackDepth × A)) (place : Result ℕ ℕ) → e.0.0 < depth.0 → P place es → P (one_later place) (e ∷ es)) where
+      (later : (e : StackDepth × A) (es : List (StackDepth × A)) (place : Result ℕ ℕ) → e.0.0 < depth.0 → P place es
+      → P (one_later place) (e ∷ es)) where
     -- what holds of a place in each of the four cases holds of the place of a depth
     pub by_place : (entries : List (StackDepth × A)) → P (place_of entries depth) entries
     by_place [] = none
@@ -67,14 +77,20 @@ module _ {A : Type 0} (depth : StackDepth) where
       | inr ge ↦ elim (cases_eq depth.0 e.0.0) [
         | inl eq ↦ subst (λ place. P place (e ∷ es)) (sym (placed e es Equal (same depth e.0 eq))) (here e es eq)
         | inr ne ↦ let gt : e.0.0 < depth.0 = omega arith in
-            subst (λ place. P place (e ∷ es)) (sym (placed e es Greater (greater depth e.0 gt))) (later e es (place_of es depth) gt (by_place es))
+            subst (λ place. P place (e ∷ es)) (sym (placed e es Greater (greater depth e.0 gt)))
+            (later e es (place_of es depth) gt (by_place es))
       ]
     ]
 
   -- above a depth that is greater, each is
-  all_greater : (e : StackDepth × A) (es : List (StackDepth × A)) → depth.0 < e.0.0 → IsRising (e ∷ es) → AllByRecursion (λ other. depth_cmp depth other ≡ Less) (keys_of es)
+  all_greater : (e : StackDepth × A) (es : List (StackDepth × A)) → depth.0 < e.0.0 → IsRising (e ∷ es)
+      → AllByRecursion (λ other. depth_cmp depth other ≡ Less) (keys_of es)
   all_greater e es lt rising = recursion_from_All (λ other. depth_cmp depth other ≡ Less) (keys_of es) (λ i d within.
-      less depth (get_or (keys_of es) i d) (omega (arith, ranked e.0.0 (get_or (keys_of es) i d).0 Less (sym (All-from_recursion (λ other. depth_cmp e.0 other ≡ Less) (keys_of es) (sorted_head depth_cmp e.0 (keys_of es) rising) i d within)))))
+      less depth (get_or (keys_of es) i d) (omega (
+        arith,
+        ranked e.0.0 (get_or (keys_of es) i d).0 Less (sym (All-from_recursion (λ other. depth_cmp e.0 other ≡ Less)
+            (keys_of es) (sorted_head depth_cmp e.0 (keys_of es) rising) i d within)),
+      )))
 
   -- ---- what stands there
 
@@ -82,21 +98,27 @@ module _ {A : Type 0} (depth : StackDepth) where
   value_at (Ok i) entries = option_map (λ e. e.1) (slice_get entries i)
   value_at (Err i) entries = None
 
-  value_later : (e : StackDepth × A) (es : List (StackDepth × A)) (place : Result ℕ ℕ) → value_at (one_later place) (e ∷ es) ≡ value_at place es
+  value_later : (e : StackDepth × A) (es : List (StackDepth × A)) (place : Result ℕ ℕ)
+      → value_at (one_later place) (e ∷ es) ≡ value_at place es
   value_later e es (Ok i) = refl
   value_later e es (Err i) = refl
 
-  pub place_is_read : (entries : List (StackDepth × A)) → IsRising entries → at_depth entries depth ≡ value_at (place_of entries depth) entries
+  pub place_is_read : (entries : List (StackDepth × A)) → IsRising entries
+      → at_depth entries depth ≡ value_at (place_of entries depth) entries
   place_is_read = by_place (λ place entries. IsRising entries → at_depth entries depth ≡ value_at place entries)
       (λ rising. refl)
-      (λ e es lt rising. at_depth-rest e.0 depth e.1 es (λ eq. omega arith) ∙ absent_below es depth (all_greater e es lt rising))
+      (λ e es lt rising.
+      at_depth-rest e.0 depth e.1 es (λ eq. omega arith) ∙ absent_below es depth (all_greater e es lt rising))
       (λ e es eq rising. rw (equal_is depth e.0 eq) refl)
-      (λ e es place gt read rising. at_depth-rest e.0 depth e.1 es (λ eq. omega arith) ∙ read (rising_later e.0 e.1 es rising) ∙ sym (value_later e es place))
+      (λ e es place gt read rising. at_depth-rest e.0 depth e.1 es (λ eq. omega arith)
+      ∙ read (rising_later e.0 e.1 es rising) ∙ sym (value_later e es place))
 
   pub place_is_within : (entries : List (StackDepth × A)) → IsSearchInRange (place_of entries depth) (length entries)
-  place_is_within = by_place (λ place entries. IsSearchInRange place (length entries)) (omega arith) (λ e es lt. omega arith) (λ e es eq. omega arith) within_later
+  place_is_within = by_place (λ place entries. IsSearchInRange place (length entries)) (omega arith)
+      (λ e es lt. omega arith) (λ e es eq. omega arith) within_later
     where
-      within_later : (e : StackDepth × A) (es : List (StackDepth × A)) (place : Result ℕ ℕ) → e.0.0 < depth.0 → IsSearchInRange place (length es) → IsSearchInRange (one_later place) (length (e ∷ es))
+      within_later : (e : StackDepth × A) (es : List (StackDepth × A)) (place : Result ℕ ℕ) → e.0.0 < depth.0
+          → IsSearchInRange place (length es) → IsSearchInRange (one_later place) (length (e ∷ es))
       within_later e es (Ok i) gt within = omega (arith, within)
       within_later e es (Err i) gt within = omega (arith, within)
 
@@ -109,7 +131,8 @@ module _ {A : Type 0} (depth : StackDepth) where
   place_has_depth : (entries : List (StackDepth × A)) → HasDepth (place_of entries depth) entries
   place_has_depth = by_place HasDepth tt (λ e es lt. tt) (λ e es eq other. λ i. record { 0 = sym eq i }) has_later
     where
-      has_later : (e : StackDepth × A) (es : List (StackDepth × A)) (place : Result ℕ ℕ) → e.0.0 < depth.0 → HasDepth place es → HasDepth (one_later place) (e ∷ es)
+      has_later : (e : StackDepth × A) (es : List (StackDepth × A)) (place : Result ℕ ℕ) → e.0.0 < depth.0
+          → HasDepth place es → HasDepth (one_later place) (e ∷ es)
       has_later e es (Ok i) gt has = has
       has_later e es (Err i) gt has = tt
 
@@ -117,7 +140,8 @@ module _ {A : Type 0} (depth : StackDepth) where
     pub found_within : place_of entries depth ≡ Ok i → i < length entries
     found_within found = subst (λ place. IsSearchInRange place (length entries)) found (place_is_within entries)
 
-    pub found_value : (e : StackDepth × A) → IsRising entries → place_of entries depth ≡ Ok i → at_depth entries depth ≡ Some (get_or entries i e).1
+    pub found_value : (e : StackDepth × A) → IsRising entries → place_of entries depth ≡ Ok i
+        → at_depth entries depth ≡ Some (get_or entries i e).1
     found_value e rising found = place_is_read entries rising
         ∙ ap (λ place. value_at place entries) found
         ∙ ap (option_map (λ e. e.1)) (slice_get-get_or entries i e (found_within found))
@@ -132,8 +156,10 @@ module _ {A : Type 0} (depth : StackDepth) where
     gap_value rising gap = place_is_read entries rising ∙ ap (λ place. value_at place entries) gap
 
   -- what has a value has a place
-  pub place_is_ok : (entries : List (StackDepth × A)) → IsRising entries → IsSome (at_depth entries depth) → IsOk (place_of entries depth)
-  place_is_ok entries rising there = of_value (place_of entries depth) (subst IsSome (place_is_read entries rising) there)
+  pub place_is_ok : (entries : List (StackDepth × A)) → IsRising entries
+      → IsSome (at_depth entries depth) → IsOk (place_of entries depth)
+  place_is_ok entries rising there =
+      of_value (place_of entries depth) (subst IsSome (place_is_read entries rising) there)
     where
       of_value : (place : Result ℕ ℕ) → IsSome (value_at place entries) → IsOk place
       of_value (Ok i) there = refl
@@ -146,16 +172,19 @@ module _ {A : Type 0} (depth : StackDepth) where
     edit_at (Ok i) entries = set entries i (depth, value)
     edit_at (Err i) entries = insert entries i (depth, value)
 
-    edit_later : (e : StackDepth × A) (es : List (StackDepth × A)) (place : Result ℕ ℕ) → edit_at (one_later place) (e ∷ es) ≡ e ∷ edit_at place es
+    edit_later : (e : StackDepth × A) (es : List (StackDepth × A)) (place : Result ℕ ℕ)
+        → edit_at (one_later place) (e ∷ es) ≡ e ∷ edit_at place es
     edit_later e es (Ok i) = refl
     edit_later e es (Err i) = refl
 
-    pub place_is_edited : (entries : List (StackDepth × A)) → edit_at (place_of entries depth) entries ≡ insert_entry depth_cmp entries depth value
+    pub place_is_edited : (entries : List (StackDepth × A))
+        → edit_at (place_of entries depth) entries ≡ insert_entry depth_cmp entries depth value
     place_is_edited = by_place (λ place entries. edit_at place entries ≡ insert_entry depth_cmp entries depth value)
         refl
         (λ e es lt. sym (placed_first depth value e es lt))
         (λ e es eq. ap (λ d. (d, value) ∷ es) (depth_is depth e.0 eq) ∙ sym (placed_here depth value e es eq))
-        (λ e es place gt edited. edit_later e es place ∙ ap (λ es. e ∷ es) edited ∙ sym (placed_later depth value e es gt))
+        (λ e es place gt edited.
+        edit_later e es place ∙ ap (λ es. e ∷ es) edited ∙ sym (placed_later depth value e es gt))
       where
         depth_is : (some other : StackDepth) → some.0 ≡ other.0 → some ≡ other
         depth_is some other eq = λ i. record { 0 = eq i }
@@ -167,7 +196,8 @@ module _ {A : Type 0} (depth : StackDepth) where
     -- an entry that is there is replaced
     pub place_is_set : (entries : List (StackDepth × A)) → IsOk (place_of entries depth)
         → insert_entry depth_cmp entries depth value ≡ set_value (is_at (depth_cmp depth)) entries value
-    place_is_set = by_place (λ place entries. IsOk place → insert_entry depth_cmp entries depth value ≡ set_value (is_at (depth_cmp depth)) entries value)
+    place_is_set = by_place (λ place entries.
+        IsOk place → insert_entry depth_cmp entries depth value ≡ set_value (is_at (depth_cmp depth)) entries value)
         (λ there. absurd (false≢true there))
         (λ e es lt there. absurd (false≢true there))
         (λ e es eq there. placed_here depth value e es eq ∙ rw (equal_is depth e.0 eq) refl)
@@ -175,7 +205,8 @@ module _ {A : Type 0} (depth : StackDepth) where
         ∙ ap (λ es. e ∷ es) (set (there_before place there))
         ∙ rw (ap is_eq (greater depth e.0 gt)) refl)
 
-    pub rising_kept : (entries : List (StackDepth × A)) → IsRising entries → IsRising (insert_entry depth_cmp entries depth value)
+    pub rising_kept : (entries : List (StackDepth × A)) → IsRising entries
+        → IsRising (insert_entry depth_cmp entries depth value)
     rising_kept = by_place (λ _ entries. IsRising entries → IsRising (insert_entry depth_cmp entries depth value))
         (λ rising. one_more depth [] tt rising)
         (λ e es lt rising. subst IsRising (sym (placed_first depth value e es lt))
@@ -183,20 +214,26 @@ module _ {A : Type 0} (depth : StackDepth) where
         (λ e es eq rising. subst IsRising (sym (placed_here depth value e es eq)) rising)
         (λ e es _ gt kept rising. subst IsRising (sym (placed_later depth value e es gt))
         (one_more e.0 (keys_of (insert_entry depth_cmp es depth value))
-        (recursion_from_All (λ other. depth_cmp e.0 other ≡ Less) _ (All-keys-insert_entry depth_cmp depth value (λ other. depth_cmp e.0 other ≡ Less) es
-        (All-from_recursion (λ other. depth_cmp e.0 other ≡ Less) (keys_of es) (sorted_head depth_cmp e.0 (keys_of es) rising)) (rw (lt-ltb e.0.0 depth.0 gt) refl)))
+        (recursion_from_All (λ other. depth_cmp e.0 other ≡ Less) _
+        (All-keys-insert_entry depth_cmp depth value (λ other. depth_cmp e.0 other ≡ Less) es
+        (All-from_recursion (λ other. depth_cmp e.0 other ≡ Less) (keys_of es)
+        (sorted_head depth_cmp e.0 (keys_of es) rising)) (rw (lt-ltb e.0.0 depth.0 gt) refl)))
         (kept (rising_later e.0 e.1 es rising))))
 
     module _ (entries : List (StackDepth × A)) (i : ℕ) where
-      pub set_in_place : place_of entries depth ≡ Ok i → set entries i (depth, value) ≡ insert_entry depth_cmp entries depth value
+      pub set_in_place : place_of entries depth ≡ Ok i
+          → set entries i (depth, value) ≡ insert_entry depth_cmp entries depth value
       set_in_place found = ap (λ place. edit_at place entries) (sym found) ∙ place_is_edited entries
 
-      pub inserted_in_gap : place_of entries depth ≡ Err i → insert entries i (depth, value) ≡ insert_entry depth_cmp entries depth value
+      pub inserted_in_gap : place_of entries depth ≡ Err i
+          → insert entries i (depth, value) ≡ insert_entry depth_cmp entries depth value
       inserted_in_gap gap = ap (λ place. edit_at place entries) (sym gap) ∙ place_is_edited entries
 
       -- the place is behind all entries
-      pub pushed_in_gap : place_of entries depth ≡ Err i → i ≡ length entries → entries ++ (depth, value) ∷ [] ≡ insert_entry depth_cmp entries depth value
-      pushed_in_gap gap last = sym (insert_end entries (depth, value)) ∙ ap (λ j. insert entries j (depth, value)) (sym last) ∙ inserted_in_gap gap
+      pub pushed_in_gap : place_of entries depth ≡ Err i → i ≡ length entries
+          → entries ++ (depth, value) ∷ [] ≡ insert_entry depth_cmp entries depth value
+      pushed_in_gap gap last = sym (insert_end entries (depth, value))
+          ∙ ap (λ j. insert entries j (depth, value)) (sym last) ∙ inserted_in_gap gap
 
   -- ---- what a search by halves finds
 
@@ -210,12 +247,15 @@ module _ {A : Type 0} (depth : StackDepth) where
     pub below : (j : ℕ) (e : StackDepth × A) → j < i → (get_or entries j e).0.0 < depth.0
     pub above : (j : ℕ) (e : StackDepth × A) → i ≤ j → j < length entries → depth.0 < (get_or entries j e).0.0
 
-  first_is_least : (e : StackDepth × A) (es : List (StackDepth × A)) (i : ℕ) → IsRising (e ∷ es) → i < length es → e.0.0 < (get_or es i e).0.0
+  first_is_least : (e : StackDepth × A) (es : List (StackDepth × A)) (i : ℕ) → IsRising (e ∷ es)
+      → i < length es → e.0.0 < (get_or es i e).0.0
   first_is_least e es i rising lt =
-      let here = Less-from_sorted depth_cmp (keys_of (e ∷ es)) 0 (suc i) e.0 rising (omega arith) (rw (length-map es (λ e. e.0)) (omega arith)) in
+      let here = Less-from_sorted depth_cmp (keys_of (e ∷ es)) 0 (suc i) e.0 rising (omega arith)
+      (rw (length-map es (λ e. e.0)) (omega arith)) in
       ranked _ _ Less (sym (rw (get_or-map (λ e. e.0) es i e e.0 lt) at here))
 
-  place_here_is : (entries : List (StackDepth × A)) (i : ℕ) → IsRising entries → i < length entries → IsHere entries i → place_of entries depth ≡ Ok i
+  place_here_is : (entries : List (StackDepth × A)) (i : ℕ) → IsRising entries → i < length entries
+      → IsHere entries i → place_of entries depth ≡ Ok i
   place_here_is [] i rising lt here = absurd (omega arith)
   place_here_is (e ∷ es) zero rising lt here = placed e es Equal (same depth e.0 (sym (here e)))
   place_here_is (e ∷ es) (suc i) rising lt here =
@@ -236,18 +276,25 @@ module _ {A : Type 0} (depth : StackDepth) where
   -- ---- what a guess finds
 
   -- the place before a guess is that of the depth
-  pub place_before : (entries : List (StackDepth × A)) → IsRising entries → (i : ℕ) (e : StackDepth × A) → i < length entries → (get_or entries i e).0.0 ≡ depth.0 → place_of entries depth ≡ Ok i
+  pub place_before : (entries : List (StackDepth × A)) → IsRising entries → (i : ℕ) (e : StackDepth × A)
+      → i < length entries → (get_or entries i e).0.0 ≡ depth.0 → place_of entries depth ≡ Ok i
   place_before entries rising i e within eq = place_here_is entries i rising within (λ other.
-      ap (λ x. x.0.0) (get_or_from_slice_get entries i (get_or entries i e) other (slice_get-get_or entries i e within)) ∙ eq)
+      ap (λ x. x.0.0)
+      (get_or_from_slice_get entries i (get_or entries i e) other (slice_get-get_or entries i e within)) ∙ eq)
 
   module _ (entries : List (StackDepth × A)) (rising : IsRising entries) (count : ℕ) where
     -- the entries up to one that is below the depth
-    below_from_last : (last : StackDepth × A) → 0 < count → slice_get entries (count - 1) ≡ Some last → last.0.0 < depth.0 → AreBelow entries count depth
+    below_from_last : (last : StackDepth × A) → 0 < count → slice_get entries (count - 1) ≡ Some last
+        → last.0.0 < depth.0 → AreBelow entries count depth
     below_from_last last some at lt = record {
       within = omega (arith, some, slice_get_within entries (count - 1) last at);
       below = λ i e before. elim (cases_eq i (count - 1)) [
         | inl eq ↦ subst (λ j. (get_or entries j e).0.0 < depth.0) (sym eq) (here e)
-        | inr ne ↦ omega (arith, rising_at entries rising i (count - 1) e (omega arith) (slice_get_within entries (count - 1) last at), here e)
+        | inr ne ↦ omega (
+          arith,
+          rising_at entries rising i (count - 1) e (omega arith) (slice_get_within entries (count - 1) last at),
+          here e,
+        )
       ];
     }
       where
@@ -255,29 +302,38 @@ module _ {A : Type 0} (depth : StackDepth) where
         here e = subst (λ x. x.0.0 < depth.0) (sym (get_or_from_slice_get entries (count - 1) last e at)) lt
 
     -- the entries before a guess, the last of which is below the depth
-    pub below_guess : (last : ℕ) (e : StackDepth × A) → last < length entries → count ≡ suc last → (get_or entries last e).0.0 < depth.0 → AreBelow entries count depth
+    pub below_guess : (last : ℕ) (e : StackDepth × A) → last < length entries → count ≡ suc last
+        → (get_or entries last e).0.0 < depth.0 → AreBelow entries count depth
     below_guess last e within is lt = below_from_last (get_or entries last e) (omega (arith, is))
-        (subst (λ i. slice_get entries i ≡ Some (get_or entries last e)) (omega (arith, is)) (slice_get-get_or entries last e within)) lt
+        (subst (λ i. slice_get entries i ≡ Some (get_or entries last e)) (omega (arith, is))
+        (slice_get-get_or entries last e within)) lt
 
     module _ (below : AreBelow entries count depth) where
       pub none_is_gap : slice_get entries count ≡ None → place_of entries depth ≡ Err count
       none_is_gap none = place_in_gap entries count (record {
         within = below.within;
         below = below.below;
-        above = λ j e le lt. let some = slice_get-get_or entries count e (omega arith) in absurd (let clash = sym none ∙ some in cc);
+        above = λ j e le lt.
+            let some = slice_get-get_or entries count e (omega arith) in absurd (let clash = sym none ∙ some in cc);
       })
 
       module _ (next : StackDepth × A) (at : slice_get entries count ≡ Some next) where
         pub next_is_place : next.0.0 ≡ depth.0 → place_of entries depth ≡ Ok count
-        next_is_place eq = place_here_is entries count rising (slice_get_within entries count next at) (λ e. ap (λ x. x.0.0) (get_or_from_slice_get entries count next e at) ∙ eq)
+        next_is_place eq = place_here_is entries count rising (slice_get_within entries count next at)
+            (λ e. ap (λ x. x.0.0) (get_or_from_slice_get entries count next e at) ∙ eq)
 
         pub next_is_behind : depth.0 < next.0.0 → place_of entries depth ≡ Err count
         next_is_behind lt = place_in_gap entries count (record {
           within = below.within;
           below = below.below;
           above = λ j e le within. elim (cases_eq j count) [
-            | inl eq ↦ subst (λ i. depth.0 < (get_or entries i e).0.0) (sym eq) (subst (λ x. depth.0 < x.0.0) (sym (get_or_from_slice_get entries count next e at)) lt)
-            | inr ne ↦ omega (arith, rising_at entries rising count j e (omega arith) within, subst (λ x. depth.0 < x.0.0) (sym (get_or_from_slice_get entries count next e at)) lt)
+            | inl eq ↦ subst (λ i. depth.0 < (get_or entries i e).0.0) (sym eq)
+                (subst (λ x. depth.0 < x.0.0) (sym (get_or_from_slice_get entries count next e at)) lt)
+            | inr ne ↦ omega (
+              arith,
+              rising_at entries rising count j e (omega arith) within,
+              subst (λ x. depth.0 < x.0.0) (sym (get_or_from_slice_get entries count next e at)) lt,
+            )
           ];
         })
 
@@ -289,8 +345,10 @@ module _ {A : Type 0} (depth : StackDepth) where
       | inr ne ↦ grind (arith, nat_tests, rising_at entries rising i j e (omega arith) lt)
     ]
 
-    pub search_finds_place : (r : Result ℕ ℕ) → IsSearchInRange r (length entries) → IsBinarySearchResult (λ e. depth_cmp e.0 depth) entries r → r ≡ place_of entries depth
-    search_finds_place (Ok i) within equal = sym (place_here_is entries i rising within (λ e. ranked _ _ Equal (sym (equal e))))
+    pub search_finds_place : (r : Result ℕ ℕ) → IsSearchInRange r (length entries)
+        → IsBinarySearchResult (λ e. depth_cmp e.0 depth) entries r → r ≡ place_of entries depth
+    search_finds_place (Ok i) within equal =
+        sym (place_here_is entries i rising within (λ e. ranked _ _ Equal (sym (equal e))))
     search_finds_place (Err i) within parted = sym (place_in_gap entries i (record {
       within = within;
       below = λ j e lt. ranked _ _ Less (sym ((parted comparisons_rise).0 j e (omega arith) lt));

@@ -12,7 +12,8 @@ UsagesByHead = List (StackDepth × HeadUsages)
 
 -- one more usage of each kind for a head, from none where it is new
 abbrev pub with_noted : UsagesByHead → StackDepth → HeadUsages → UsagesByHead
-with_noted counts head usages = insert_entry depth_cmp counts head (with_nested (unwrap_or (at_depth counts head) no_usages) usages)
+with_noted counts head usages =
+    insert_entry depth_cmp counts head (with_nested (unwrap_or (at_depth counts head) no_usages) usages)
 
 -- the usages of a head that are recorded twice
 abbrev pub merged : Option HeadUsages → Option HeadUsages → Option HeadUsages

@@ -1,4 +1,5 @@
--- The heads of an answer as the theory of open graphs sees them: by depth, with the kinds of paths and cycles as their ranks.
+-- The heads of an answer as the theory of open graphs sees them: by depth, with the kinds of paths and
+-- cycles as their ranks.
 use Rattle.std.specs.Prelude.{ℕ, zero, suc, Bool, false, Option, None, Some}
 use Rattle.open_graphs.specs.Use as theory
 use Rattle.path_kinds.specs.declared.path.PathKind.TheVariants.{Inductive, Unknown, Coinductive, ForcedAmbiguity}

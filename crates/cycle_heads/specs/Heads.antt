@@ -38,11 +38,13 @@ highest heads = slice_get heads (length heads - 1)
 -- a head with paths and usages more: a new head has the usages as they are, and one that is there one more of each kind
 abbrev pub joined_head : Option CycleHead → PathsToNested → HeadUsages → CycleHead
 joined_head None paths usages = record { paths_to_head = paths; usages = usages }
-joined_head (Some head) paths usages = record { paths_to_head = union head.paths_to_head paths; usages = with_nested head.usages usages }
+joined_head (Some head) paths usages =
+    record { paths_to_head = union head.paths_to_head paths; usages = with_nested head.usages usages }
 
 -- the heads with one more, or one joined
 abbrev pub with_head : Heads → StackDepth → PathsToNested → HeadUsages → Heads
-with_head heads depth paths usages = insert_entry depth_cmp heads depth (joined_head (at_depth heads depth) paths usages)
+with_head heads depth paths usages =
+    insert_entry depth_cmp heads depth (joined_head (at_depth heads depth) paths usages)
 
 -- the heads where the one at a depth is another
 abbrev pub replace_head : Heads → StackDepth → CycleHead → Heads

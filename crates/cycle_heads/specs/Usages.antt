@@ -14,7 +14,12 @@ count_of usages ForcedAmbiguity = usages.forced_ambiguity
 
 -- the usages with these counts
 abbrev pub usages_by : (PathKind → ℕ) → HeadUsages
-usages_by count = record { inductive = count Inductive; unknown = count Unknown; coinductive = count Coinductive; forced_ambiguity = count ForcedAmbiguity }
+usages_by count = record {
+  inductive = count Inductive;
+  unknown = count Unknown;
+  coinductive = count Coinductive;
+  forced_ambiguity = count ForcedAmbiguity;
+}
 
 -- the sum of two counts, which sticks at the greatest count
 abbrev pub sticking_sum : ℕ → ℕ → ℕ
@@ -26,7 +31,8 @@ count_without n m = if n == 2 ^ 32 - 1 then n else n - m
 
 -- one more usage of the kind
 abbrev pub with_usage : HeadUsages → PathKind → HeadUsages
-with_usage usages kind = usages_by (λ k. if rank_of k == rank_of kind then sticking_sum (count_of usages k) 1 else count_of usages k)
+with_usage usages kind =
+    usages_by (λ k. if rank_of k == rank_of kind then sticking_sum (count_of usages k) 1 else count_of usages k)
 
 -- one more usage of each kind that is among those of a nested goal
 abbrev pub with_nested : HeadUsages → HeadUsages → HeadUsages
@@ -50,4 +56,5 @@ no_usages = usages_by (λ _. 0)
 
 -- whether there was a cycle of some kind
 abbrev pub has_usages : HeadUsages → Bool
-has_usages usages = not ((usages.inductive == 0) && (usages.unknown == 0) && (usages.coinductive == 0) && (usages.forced_ambiguity == 0))
+has_usages usages = not ((usages.inductive == 0) && (usages.unknown == 0)
+    && (usages.coinductive == 0) && (usages.forced_ambiguity == 0))

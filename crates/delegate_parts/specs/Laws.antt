@@ -1,7 +1,8 @@
 -- Outcomes are of the sorts that a search asks for.
 use Rattle.std.specs.Prelude.{◌≡◌, Some, Bool, true, false}
 use Rattle.std.proofs.Common.{◌∙◌}
-use Rattle.delegate_parts.specs.Below.{PathKind, Inductive, Unknown, Coinductive, ForcedAmbiguity, IsNeither, IsCycleResult}
+use Rattle.delegate_parts.specs.Below.{PathKind, Inductive, Unknown, Coinductive, ForcedAmbiguity}
+use Rattle.delegate_parts.specs.Below.{IsNeither, IsCycleResult}
 use Rattle.delegate_parts.specs.declared.outcome.Outcome.{Outcome}
 use Rattle.delegate_parts.specs.declared.outcome.Outcome.TheVariants.{Yes, No, Maybe, Overflow}
 use Rattle.delegate_parts.specs.Outcome.{is_yes, is_no, initial_outcome, kind_of, ambiguity_of, after_most_runs}
@@ -48,13 +49,15 @@ module _ {says_yes says_no : Outcome → Bool} (are : AreVerdicts says_yes says_
   neither_by : (r : Outcome) → IsNeither is_yes is_no r → IsNeither says_yes says_no r
   neither_by r h = record { not_yes = are.yes r ∙ h.not_yes; not_no = are.no r ∙ h.not_no }
 
-  cycle_result_by : (kind : PathKind) (r : Outcome) → IsCycleResult is_yes is_no kind r → IsCycleResult says_yes says_no kind r
+  cycle_result_by : (kind : PathKind) (r : Outcome) → IsCycleResult is_yes is_no kind r
+      → IsCycleResult says_yes says_no kind r
   cycle_result_by kind r h = record { yes = are.yes r ∙ h.yes; no = are.no r ∙ h.no }
 
   pub initial_sort_by : (kind : PathKind) → IsCycleResult says_yes says_no kind (initial_outcome kind)
   initial_sort_by kind = cycle_result_by kind (initial_outcome kind) (initial_sort kind)
 
-  pub recognised_sort_by : (r : Outcome) (kind : PathKind) → kind_of r ≡ Some kind → IsCycleResult says_yes says_no kind r
+  pub recognised_sort_by : (r : Outcome) (kind : PathKind) → kind_of r ≡ Some kind
+      → IsCycleResult says_yes says_no kind r
   recognised_sort_by r kind h = cycle_result_by kind r (recognised_sort r kind h)
 
   pub overflow_by : IsNeither says_yes says_no Overflow

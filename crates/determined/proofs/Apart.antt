@@ -7,8 +7,10 @@ use Rattle.determined.specs.Below.{Overlap, Question}
 use Rattle.determined.specs.Given.{HasProofOver, HasRefutationOver, IsShownOver}
 
 module _ {I : Type 0} (given : Question I → Option Bool) (proves refutes : I → List (Question I) → Type 0)
-    (clash : (goal : I) (held failed : List (Question I)) → proves goal held → refutes goal failed → Overlap held failed) where
-  clash_over : (goal : I) (held failed : List (Question I)) → IsShownOver given true proves goal held → IsShownOver given false refutes goal failed → Overlap held failed
+    (clash : (goal : I) (held failed : List (Question I)) → proves goal held
+    → refutes goal failed → Overlap held failed) where
+  clash_over : (goal : I) (held failed : List (Question I)) → IsShownOver given true proves goal held
+      → IsShownOver given false refutes goal failed → Overlap held failed
   clash_over goal held failed p r =
       let w = clash goal p.shown r.shown p.by_rule r.by_rule in
       elim (p.are_covered w.0 w.1) [
@@ -24,4 +26,5 @@ module _ {I : Type 0} (given : Question I → Option Bool) (proves refutes : I �
 
   pub never_both_over : (goal : I) → HasProofOver given proves goal → HasRefutationOver given refutes goal → ⊥
   never_both_over goal (nodes, root, proof) (others, top, refutation) =
-      never_both (IsShownOver given true proves) (IsShownOver given false refutes) clash_over nodes others root top goal proof refutation
+      never_both (IsShownOver given true proves) (IsShownOver given false refutes) clash_over nodes
+      others root top goal proof refutation

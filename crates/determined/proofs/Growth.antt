@@ -1,6 +1,7 @@
 -- Sets of places, as tests. A family of sets that only grows stays the same at some time, as far as finitely many
 -- places go; and each place that is in at last has a time at which it came in.
-use Rattle.std.proofs.Common.{◌≡◌, ◌≢◌, ℕ, zero, suc, ◌+◌, ◌<◌, ◌≤◌, Bool, true, false, cond, ◌⊎◌, inl, inr, refl, sym, subst, arith}
+use Rattle.std.proofs.Common.{◌≡◌, ◌≢◌, ℕ, zero, suc, ◌+◌, ◌<◌, ◌≤◌, Bool, true, false, cond, ◌⊎◌, inl, inr, refl, sym}
+use Rattle.std.proofs.Common.{subst, arith}
 use Rattle.std.proofs.lemmas.Bool.{cases_Bool, cases_lt}
 use Rattle.std.proofs.lemmas.Bool.Decides.{eqb_tells}
 
@@ -94,7 +95,8 @@ module _ (family : ℕ → ℕ → Bool) (grows : (k x : ℕ) → family k x ≡
       ]
 
   -- and it was not in just before
-  pub came_at : (x k : ℕ) → family 0 x ≡ false → family k x ≡ true → (j : ℕ) × (came x k ≡ suc j) × (family j x ≡ false) × (family (suc j) x ≡ true) × (j < k)
+  pub came_at : (x k : ℕ) → family 0 x ≡ false → family k x ≡ true
+      → (j : ℕ) × (came x k ≡ suc j) × (family j x ≡ false) × (family (suc j) x ≡ true) × (j < k)
   came_at x zero none is = absurd cc
   came_at x (suc k) none is =
       elim (cases_Bool (family k x)) [

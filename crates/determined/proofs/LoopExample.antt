@@ -1,7 +1,8 @@
 -- The premises can be met: a goal that asks itself, by a kind whose cycles are yes or no, and has its answer as its
 -- result, is a closed list of one goal, and its script is decisive.
 use Rattle.std.proofs.Common.{◌≡◌, ◌≤◌, List, [], ◌∷◌, length, Contains, Some, None, refl, subst, arith}
-use Rattle.determined.specs.Below.{AreDecided, Answer, Begin, Done, Evaluate, IsDecidedKind, IsDecisive, IsDefinite, IsFitting, Noted, PathKind, Reply, Request, Verdicts, fault_after, request_after}
+use Rattle.determined.specs.Below.{AreDecided, Answer, Begin, Done, Evaluate, IsDecidedKind, IsDecisive, IsDefinite}
+use Rattle.determined.specs.Below.{IsFitting, Noted, PathKind, Reply, Request, Verdicts, fault_after, request_after}
 use Rattle.determined.specs.Closed.{IsClosed}
 
 module _ {I R : Type 0} (kind : PathKind) where
@@ -26,7 +27,8 @@ module _ {I R : Type 0} (kind : PathKind) where
   at_most goal (x ∷ Noted ∷ Answer r ∷ rest) fits = absurd fits.1.0
   at_most goal (x ∷ Noted ∷ Noted ∷ rest) fits = absurd fits.1.0
 
-  asks_goal : (goal asked : I) (k : PathKind) (replies : List (Reply R)) → request_after (asks_itself goal) replies ≡ Some (Evaluate k asked) → (goal ≡ asked) × (kind ≡ k)
+  asks_goal : (goal asked : I) (k : PathKind) (replies : List (Reply R))
+      → request_after (asks_itself goal) replies ≡ Some (Evaluate k asked) → (goal ≡ asked) × (kind ≡ k)
   asks_goal goal asked k [] is = absurd cc
   asks_goal goal asked k (Begin ∷ earlier) is = (cc, cc)
   asks_goal goal asked k (Answer r ∷ earlier) is = absurd cc
@@ -46,7 +48,8 @@ module _ {I R : Type 0} (kind : PathKind) where
   }
 
   module _ (says : Verdicts R) (decided : IsDecidedKind kind) where
-    ends : (goal : I) (replies : List (Reply R)) (r : R) → AreDecided says replies → request_after (asks_itself goal) replies ≡ Some (Done r) → IsDefinite says r
+    ends : (goal : I) (replies : List (Reply R)) (r : R) → AreDecided says replies
+        → request_after (asks_itself goal) replies ≡ Some (Done r) → IsDefinite says r
     ends goal [] r all is = absurd cc
     ends goal (Begin ∷ earlier) r all is = absurd cc
     ends goal (Answer s ∷ earlier) r all is = let e : s ≡ r = cc in subst (IsDefinite says) e all.0

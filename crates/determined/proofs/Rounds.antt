@@ -3,8 +3,10 @@
 -- leaves of `outer` what some round took in. Rounds only grow and stages only shrink, so both come to an end. What
 -- the last stage leaves is won, by places that came in before and by places that are left; what a stage took out is
 -- lost, by places that were taken out no later.
-use Rattle.std.proofs.Common.{◌≡◌, ℕ, zero, suc, ◌<◌, ◌≤◌, Bool, true, false, not, ◌&&◌, ◌||◌, ◌⊎◌, inl, inr, refl, arith}
-use Rattle.std.proofs.lemmas.Bool.{and_cases, and_left, and_parts, and_right, cases_Bool, not-false, not-true, not_from_false, or_cases, or_left, or_right}
+use Rattle.std.proofs.Common.{◌≡◌, ℕ, zero, suc, ◌<◌, ◌≤◌, Bool, true, false, not, ◌&&◌, ◌||◌, ◌⊎◌, inl, inr}
+use Rattle.std.proofs.Common.{refl, arith}
+use Rattle.std.proofs.lemmas.Bool.{and_cases, and_left, and_parts, and_right, cases_Bool, not-false, not-true}
+use Rattle.std.proofs.lemmas.Bool.{not_from_false, or_cases, or_left, or_right}
 use Rattle.determined.proofs.Growth.{came, came_at, came_by, later, stops}
 
 abbrev is_left : {A B : Type 0} → A ⊎ B → Bool
@@ -52,7 +54,8 @@ module _ (n : ℕ) (Won Lost : (inner outer : ℕ → Bool) → ℕ → Type 0) 
     pub won_at : (x : ℕ) → won x ≡ true → IsWon won rank x
     pub lost_at : (x : ℕ) → x < n → lost x ≡ true → IsLost lost fall x
 
-module _ (n : ℕ) (Won Lost : (inner outer : ℕ → Bool) → ℕ → Type 0) (sides : (inner outer : ℕ → Bool) (x : ℕ) → Won inner outer x ⊎ Lost inner outer x) where
+module _ (n : ℕ) (Won Lost : (inner outer : ℕ → Bool) → ℕ → Type 0)
+    (sides : (inner outer : ℕ → Bool) (x : ℕ) → Won inner outer x ⊎ Lost inner outer x) where
   abbrev holds : (inner outer : ℕ → Bool) → ℕ → Bool
   holds inner outer x = is_left (sides inner outer x)
 
@@ -90,7 +93,8 @@ module _ (n : ℕ) (Won Lost : (inner outer : ℕ → Bool) → ℕ → Type 0) 
   gone i x = not (stage i x)
 
   gone_grows : (i x : ℕ) → gone i x ≡ true → gone (suc i) x ≡ true
-  gone_grows i x is = not_from_false (stage (suc i) x) (and_left (stage i x) (taken (stage i) x) (not-true (stage i x) is))
+  gone_grows i x is =
+      not_from_false (stage (suc i) x) (and_left (stage i x) (taken (stage i) x) (not-true (stage i x) is))
 
   abbrev last_stage : ℕ
   last_stage = (stops gone gone_grows n).0
@@ -111,7 +115,8 @@ module _ (n : ℕ) (Won Lost : (inner outer : ℕ → Bool) → ℕ → Type 0) 
       elim (cases_Bool (stage (suc last_stage) x)) [
         | inl e ↦ (and_parts (left x) (won x) e).1
         | inr e ↦
-            let out = not-true (left x) ((stops gone gone_grows n).1 x l (not_from_false (stage (suc last_stage) x) e)) in
+            let out =
+            not-true (left x) ((stops gone gone_grows n).1 x l (not_from_false (stage (suc last_stage) x) e)) in
             absurd cc
       ]
 
@@ -121,7 +126,8 @@ module _ (n : ℕ) (Won Lost : (inner outer : ℕ → Bool) → ℕ → Type 0) 
       record {
         inner = round left w.0;
         outer = left;
-        is_won = left_of (sides (round left w.0) left x) (or_true (round left w.0 x) (holds (round left w.0) left x) w.2 w.3);
+        is_won = left_of (sides (round left w.0) left x)
+            (or_true (round left w.0 x) (holds (round left w.0) left x) w.2 w.3);
         by_inner = λ y here. let by = came_by (round left) (round_grows left) y w.0 (last_round left) here in (
           later (round left) (round_grows left) y w.0 (last_round left) (omega (arith, w.4)) here,
           omega (arith, by, w.1),
@@ -133,8 +139,10 @@ module _ (n : ℕ) (Won Lost : (inner outer : ℕ → Bool) → ℕ → Type 0) 
   lost_at x l out =
       let w = came_at gone gone_grows x last_stage refl out in
       let was : stage w.0 x ≡ true = not-false (stage w.0 x) w.2 in
-      let none : taken (stage w.0) x ≡ false = and_false (stage w.0 x) (taken (stage w.0) x) was (not-true (stage (suc w.0) x) w.3) in
-      let falls : (j : ℕ) → j ≤ suc w.0 → (y : ℕ) → stage j y ≡ false → (gone last_stage y ≡ true) × (fall y ≤ j) = λ j m y e. (
+      let none : taken (stage w.0) x ≡ false =
+      and_false (stage w.0 x) (taken (stage w.0) x) was (not-true (stage (suc w.0) x) w.3) in
+      let falls : (j : ℕ) → j ≤ suc w.0 → (y : ℕ) → stage j y ≡ false → (gone last_stage y ≡ true) × (fall y ≤ j) =
+      λ j m y e. (
         later gone gone_grows y j last_stage (omega (arith, w.4)) (not_from_false (stage j y) e),
         came_by gone gone_grows y j last_stage (not_from_false (stage j y) e),
       ) in
@@ -142,7 +150,8 @@ module _ (n : ℕ) (Won Lost : (inner outer : ℕ → Bool) → ℕ → Type 0) 
         inner = taken (stage w.0);
         outer = stage w.0;
         is_lost = right_of (sides (taken (stage w.0)) (stage w.0) x) (loses (stage w.0) x l none);
-        by_inner = λ y e. let f = falls (suc w.0) (omega arith) y (and_right (stage w.0 y) (taken (stage w.0) y) e) in (f.0, omega (arith, f.1, w.1));
+        by_inner = λ y e. let f = falls (suc w.0) (omega arith) y (and_right (stage w.0 y) (taken (stage w.0) y) e) in
+            (f.0, omega (arith, f.1, w.1));
         by_outer = λ y e. let f = falls w.0 (omega arith) y e in (f.0, omega (arith, f.1, w.1));
       }
 
@@ -152,7 +161,8 @@ module _ (n : ℕ) (Won Lost : (inner outer : ℕ → Bool) → ℕ → Type 0) 
     lost = gone last_stage;
     rank = rank left;
     fall = fall;
-    either = λ x l. elim (cases_Bool (left x)) [ inl e ↦ inl (left_is_won x l e) | inr e ↦ inr (not_from_false (left x) e) ];
+    either =
+        λ x l. elim (cases_Bool (left x)) [ inl e ↦ inl (left_is_won x l e) | inr e ↦ inr (not_from_false (left x) e) ];
     won_at = won_at;
     lost_at = lost_at;
   }

@@ -1,7 +1,9 @@
--- A frame asks the questions of one candidate after the other. It leaves a candidate at its first answer that is not yes,
--- and the goal at its first candidate that holds.
-use Rattle.std.specs.Prelude.{◌≡◌, ℕ, ◌+◌, ◌-◌, Bool, true, false, if◌then◌else◌, List, [], ◌∷◌, length, drop, sum_by, slice_get, Option, Some, None}
-use Rattle.early_scripts.specs.Below.{Request, Evaluate, Done, Reply, Begin, Answer, Noted, Outcome, Yes, No, Maybe, Overflow, Goal, Asking, Candidate, Rules, Table, candidates_of}
+-- A frame asks the questions of one candidate after the other. It leaves a candidate at its first answer that is not
+-- yes, and the goal at its first candidate that holds.
+use Rattle.std.specs.Prelude.{◌≡◌, ℕ, ◌+◌, ◌-◌, Bool, true, false, if◌then◌else◌, List, [], ◌∷◌, length, drop, sum_by}
+use Rattle.std.specs.Prelude.{slice_get, Option, Some, None}
+use Rattle.early_scripts.specs.Below.{Request, Evaluate, Done, Reply, Begin, Answer, Noted, Outcome, Yes, No, Maybe}
+use Rattle.early_scripts.specs.Below.{Overflow, Goal, Asking, Candidate, Rules, Table, candidates_of}
 use Rattle.rule_tables.specs.Candidate.{candidates_with}
 use Rattle.early_scripts.specs.declared.early.State.{State}
 use Rattle.early_scripts.specs.declared.early.EarlyFrame.{EarlyFrame}
@@ -74,7 +76,8 @@ abbrev pub early_script : {T : Type 0} → (T → Rules) → Table T → Goal �
 early_script rules_of cx goal = script_of (candidates_of (rules_of cx.lender) goal)
 
 -- where a frame stands
-pub record EarlyFrameStands {T : Type 0} (rules_of : T → Rules) (frame : EarlyFrame T) (cx : Table T) (goal : Goal) (replies : List (Reply Outcome)) : Type 0 where
+pub record EarlyFrameStands {T : Type 0} (rules_of : T → Rules) (frame : EarlyFrame T) (cx : Table T) (goal : Goal)
+    (replies : List (Reply Outcome)) : Type 0 where
   pub same_rules : rules_of frame.lender ≡ rules_of cx.lender
   pub same_goal : frame.goal ≡ goal
   pub state : frame.state ≡ state_after (candidates_of (rules_of cx.lender) goal) replies

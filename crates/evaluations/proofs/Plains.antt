@@ -1,16 +1,24 @@
 -- Goals with a rank answer their plain values.
-use Rattle.std.proofs.Common.{◌≡◌, ℕ, zero, suc, ◌<◌, ◌≤◌, inl, inr, Bool, true, false, List, [], ◌∷◌, Option, Some, None, refl, sym, ◌∙◌, subst, arith, ◌≢◌, ◌||◌}
+use Rattle.std.proofs.Common.{◌≡◌, ℕ, zero, suc, ◌<◌, ◌≤◌, inl, inr, Bool, true, false, List, [], ◌∷◌, Option, Some}
+use Rattle.std.proofs.Common.{None, refl, sym, ◌∙◌, subst, arith, ◌≢◌, ◌||◌}
 use Rattle.std.proofs.lemmas.Bool.{false_from_ne_true, or_cases, or_parts}
-use Rattle.evaluations.specs.Below.{PathKind, Request, Evaluate, EnterCandidate, FinishCandidate, Ignore, Done, Reply, Begin, Answer, Noted, request_after, IsReplyTo, AreRepliesTo, IsFitting, IsOrderly, AsksOnly, IsPlainValue, IsPlainTo, HasNoRank, IsPlain, IsBelowRank, fault_after}
-use Rattle.evaluations.specs.Words.{Frame, Outcome, Asks, IsAllowed, IsSafeOutcome, IsSafe, AreSafe, IsOnStack, LeavesOutcome, AsksAt, HasRoom, HaveRoom, answered, fresh, refused, replied, run_again, stepped}
+use Rattle.evaluations.specs.Below.{PathKind, Request, Evaluate, EnterCandidate, FinishCandidate, Ignore, Done, Reply}
+use Rattle.evaluations.specs.Below.{Begin, Answer, Noted, request_after, IsReplyTo, AreRepliesTo, IsFitting, IsOrderly}
+use Rattle.evaluations.specs.Below.{AsksOnly, IsPlainValue, IsPlainTo, HasNoRank, IsPlain, IsBelowRank, fault_after}
+use Rattle.evaluations.specs.Words.{Frame, Outcome, Asks, IsAllowed, IsSafeOutcome, IsSafe, AreSafe, IsOnStack}
+use Rattle.evaluations.specs.Words.{LeavesOutcome, AsksAt, HasRoom, HaveRoom, answered, fresh, refused, replied}
+use Rattle.evaluations.specs.Words.{run_again, stepped}
 
 -- an answer to a question
-answer_fits : {I R : Type 0} (P : I → R → Type 0) (q : Option (Request I R)) (kind : PathKind) (goal : I) (r : R) → q ≡ Some (Evaluate kind goal) → P goal r → IsReplyTo P q (Answer r)
+answer_fits : {I R : Type 0} (P : I → R → Type 0) (q : Option (Request I R)) (kind : PathKind) (goal : I) (r : R)
+    → q ≡ Some (Evaluate kind goal) → P goal r → IsReplyTo P q (Answer r)
 answer_fits P q kind goal r e h = subst (λ p. IsReplyTo P p (Answer r)) (sym e) h
 
 -- a reply that is allowed for what may be asked
-reply_among : {I R : Type 0} (P Q : I → R → Type 0) (among : I → Type 0) → ((goal : I) (r : R) → among goal → P goal r → Q goal r)
-    → (q : Option (Request I R)) → ((kind : PathKind) (goal : I) → q ≡ Some (Evaluate kind goal) → among goal) → (r : Reply R) → IsReplyTo P q r → IsReplyTo Q q r
+reply_among : {I R : Type 0} (P Q : I → R → Type 0) (among : I → Type 0)
+    → ((goal : I) (r : R) → among goal → P goal r → Q goal r)
+    → (q : Option (Request I R)) → ((kind : PathKind) (goal : I) → q ≡ Some (Evaluate kind goal) → among goal)
+    → (r : Reply R) → IsReplyTo P q r → IsReplyTo Q q r
 reply_among P Q among more None asks Begin h = tt
 reply_among P Q among more (Some (Evaluate kind goal)) asks (Answer r) h = more goal r (asks kind goal refl) h
 reply_among P Q among more (Some EnterCandidate) asks Noted h = tt
@@ -20,36 +28,54 @@ reply_among P Q among more _ asks _ h = absurd h
 
 module _ {I R : Type 0} (scripts : I → List (Reply R) → Request I R) where
   -- what a ranked goal asks has a smaller rank
-  asked : (n : ℕ) (goal h : I) (kind : PathKind) (replies : List (Reply R)) → IsPlainTo scripts n goal → IsFitting (scripts goal) replies → request_after (scripts goal) replies ≡ Some (Evaluate kind h) → (m : ℕ) × (suc m ≡ n) × IsPlainTo scripts m h
+  asked : (n : ℕ) (goal h : I) (kind : PathKind) (replies : List (Reply R)) → IsPlainTo scripts n goal
+      → IsFitting (scripts goal) replies → request_after (scripts goal) replies ≡ Some (Evaluate kind h)
+      → (m : ℕ) × (suc m ≡ n) × IsPlainTo scripts m h
   asked zero goal h kind replies p fits is = absurd (p.is_ranked replies kind h fits is)
-  asked (suc n) goal h kind replies p fits is = (n, refl, record { is_ranked = p.is_ranked replies kind h fits is; is_orderly = p.is_orderly.1 replies kind h fits is })
+  asked (suc n) goal h kind replies p fits is = (
+    n,
+    refl,
+    record { is_ranked = p.is_ranked replies kind h fits is; is_orderly = p.is_orderly.1 replies kind h fits is },
+  )
 
   -- so a goal that asks one without a rank has none
-  no_rank_up : (goal h : I) (kind : PathKind) (replies : List (Reply R)) → IsFitting (scripts goal) replies → request_after (scripts goal) replies ≡ Some (Evaluate kind h) → HasNoRank scripts h → HasNoRank scripts goal
+  no_rank_up : (goal h : I) (kind : PathKind) (replies : List (Reply R)) → IsFitting (scripts goal) replies
+      → request_after (scripts goal) replies ≡ Some (Evaluate kind h) → HasNoRank scripts h → HasNoRank scripts goal
   no_rank_up goal h kind replies fits is none n p = let w = asked n goal h kind replies p fits is in none w.0 w.2
 
-  below_rank_up : (goal h : I) (kind : PathKind) (replies : List (Reply R)) (depth available : ℕ) → IsFitting (scripts goal) replies → request_after (scripts goal) replies ≡ Some (Evaluate kind h) → available ≡ suc depth → IsBelowRank scripts h depth → IsBelowRank scripts goal available
+  below_rank_up : (goal h : I) (kind : PathKind) (replies : List (Reply R)) (depth available : ℕ)
+      → IsFitting (scripts goal) replies → request_after (scripts goal) replies ≡ Some (Evaluate kind h)
+      → available ≡ suc depth → IsBelowRank scripts h depth → IsBelowRank scripts goal available
   below_rank_up goal h kind replies depth available fits is next low n p =
       let w = asked n goal h kind replies p fits is in
       let l : depth < w.0 = low w.0 w.2 in
       let e : suc w.0 ≡ n = w.1 in omega arith
 
-  answered_among : (goal : I) (P Q : I → R → Type 0) (among : I → Type 0) → AsksOnly (λ _ h. among h) (scripts goal) → ((h : I) (r : R) → among h → P h r → Q h r) → (replies : List (Reply R)) → IsFitting (scripts goal) replies → AreRepliesTo P (scripts goal) replies → AreRepliesTo Q (scripts goal) replies
+  answered_among : (goal : I) (P Q : I → R → Type 0) (among : I → Type 0) → AsksOnly (λ _ h. among h) (scripts goal)
+      → ((h : I) (r : R) → among h → P h r → Q h r) → (replies : List (Reply R)) → IsFitting (scripts goal) replies
+      → AreRepliesTo P (scripts goal) replies → AreRepliesTo Q (scripts goal) replies
   answered_among goal P Q among only more [] fits h = tt
-  answered_among goal P Q among only more (r ∷ earlier) fits h =
-      (reply_among P Q among more (request_after (scripts goal) earlier) (λ kind g is. only earlier kind g fits.1 is) r h.0, answered_among goal P Q among only more earlier fits.1 h.1)
+  answered_among goal P Q among only more (r ∷ earlier) fits h = (
+    reply_among P Q among more (request_after (scripts goal) earlier)
+        (λ kind g is. only earlier kind g fits.1 is) r h.0,
+    answered_among goal P Q among only more earlier fits.1 h.1,
+  )
 
   -- plain answers lead to the plain value
-  plain_result : (goal : I) (replies : List (Reply R)) (r : R) → IsFitting (scripts goal) replies → AreRepliesTo (IsPlain scripts) (scripts goal) replies → request_after (scripts goal) replies ≡ Some (Done r) → IsPlain scripts goal r
+  plain_result : (goal : I) (replies : List (Reply R)) (r : R) → IsFitting (scripts goal) replies
+      → AreRepliesTo (IsPlain scripts) (scripts goal) replies
+      → request_after (scripts goal) replies ≡ Some (Done r) → IsPlain scripts goal r
   plain_result goal replies r fits h is zero p = record {
     replies = replies;
-    is_answered = answered_among goal (IsPlain scripts) (λ _ _. ⊥) (λ _. ⊥) p.is_ranked (λ _ _ none _. none) replies fits h;
+    is_answered =
+        answered_among goal (IsPlain scripts) (λ _ _. ⊥) (λ _. ⊥) p.is_ranked (λ _ _ none _. none) replies fits h;
     is_done = is;
   }
   plain_result goal replies r fits h is (suc n) p = record {
     replies = replies;
     is_answered = answered_among goal (IsPlain scripts) (IsPlainValue scripts n) (λ g. IsPlainTo scripts n g)
-        (λ old kind g f e. record { is_ranked = p.is_ranked old kind g f e; is_orderly = p.is_orderly.1 old kind g f e })
+        (λ old kind g f e.
+        record { is_ranked = p.is_ranked old kind g f e; is_orderly = p.is_orderly.1 old kind g f e })
         (λ g a q v. v n q) replies fits h;
     is_done = is;
   }
@@ -65,7 +91,14 @@ module _ {I R : Type 0} (scripts : I → List (Reply R) → Request I R) where
       (frames : List (Frame I R)) (goal : I) (depth left : ℕ)
       → AsksAt scripts frames goal depth → AreSafe scripts frames → AreSafe scripts (fresh goal depth left ∷ frames)
   push_keeps_safe frames goal depth left asks safe = (
-    record { fitting = tt; values = λ _. tt; overflow = λ e. absurd cc; before = λ e. absurd cc; cycle = λ e. absurd cc; within = omega arith },
+    record {
+      fitting = tt;
+      values = λ _. tt;
+      overflow = λ e. absurd cc;
+      before = λ e. absurd cc;
+      cycle = λ e. absurd cc;
+      within = omega arith;
+    },
     asks,
     safe,
   )
@@ -75,7 +108,14 @@ module _ {I R : Type 0} (scripts : I → List (Reply R) → Request I R) where
       (f : Frame I R) (below : List (Frame I R)) (left : ℕ)
       → AreSafe scripts (f ∷ below) → AreSafe scripts (stepped f left ∷ below)
   step_keeps_safe f below left safe = (
-    record { fitting = safe.0.fitting; values = safe.0.values; overflow = safe.0.overflow; before = safe.0.before; cycle = safe.0.cycle; within = safe.0.within },
+    record {
+      fitting = safe.0.fitting;
+      values = safe.0.values;
+      overflow = safe.0.overflow;
+      before = safe.0.before;
+      cycle = safe.0.cycle;
+      within = safe.0.within;
+    },
     safe.1,
     safe.2,
   )
@@ -87,8 +127,16 @@ module _ {I R : Type 0} (scripts : I → List (Reply R) → Request I R) where
       → AreSafe scripts (f ∷ below) → AreSafe scripts (replied f reply ∷ below)
   reply_keeps_safe f below reply fits safe = (
     record {
-      fitting = (reply_among (λ _ _. ⊥) (λ _ _. Unit {0}) (λ _. Unit {0}) (λ _ _ _ _. tt) (request_after (scripts f.goal) f.replies) (λ _ _ _. tt) reply fits, safe.0.fitting);
-      values = λ e. (reply_among (λ _ _. ⊥) (IsPlain scripts) (λ _. Unit {0}) (λ _ _ _ h. absurd h) (request_after (scripts f.goal) f.replies) (λ _ _ _. tt) reply fits, safe.0.values e);
+      fitting = (
+        reply_among (λ _ _. ⊥) (λ _ _. Unit {0}) (λ _. Unit {0}) (λ _ _ _ _. tt)
+            (request_after (scripts f.goal) f.replies) (λ _ _ _. tt) reply fits,
+        safe.0.fitting,
+      );
+      values = λ e. (
+        reply_among (λ _ _. ⊥) (IsPlain scripts) (λ _. Unit {0}) (λ _ _ _ h. absurd h)
+            (request_after (scripts f.goal) f.replies) (λ _ _ _. tt) reply fits,
+        safe.0.values e,
+      );
       overflow = safe.0.overflow;
       before = safe.0.before;
       cycle = safe.0.cycle;
@@ -98,12 +146,16 @@ module _ {I R : Type 0} (scripts : I → List (Reply R) → Request I R) where
     safe.2,
   )
 
-  answer_overflow : (f : Frame I R) (goal : I) (depth : ℕ) (o : Outcome R) → Asks scripts f goal → IsAllowed f depth → IsSafeOutcome scripts goal depth o → IsSafe scripts f → (met : Bool) → f.met_overflow ≡ met → (f.met_overflow || o.met_overflow) ≡ true → IsBelowRank scripts f.goal f.available
+  answer_overflow : (f : Frame I R) (goal : I) (depth : ℕ) (o : Outcome R) → Asks scripts f goal → IsAllowed f depth
+      → IsSafeOutcome scripts goal depth o → IsSafe scripts f → (met : Bool) → f.met_overflow ≡ met
+      → (f.met_overflow || o.met_overflow) ≡ true → IsBelowRank scripts f.goal f.available
   answer_overflow f goal depth o asks allowed safe_outcome safe true e h = safe.overflow e
-  answer_overflow f goal depth o asks allowed safe_outcome safe false e h = elim (or_cases f.met_overflow o.met_overflow h) [
-    | inl own ↦ safe.overflow own
-    | inr its ↦ below_rank_up f.goal goal asks.0 f.replies depth f.available safe.fitting asks.1 (allowed.is_next e) (safe_outcome.overflow its)
-  ]
+  answer_overflow f goal depth o asks allowed safe_outcome safe false e h =
+      elim (or_cases f.met_overflow o.met_overflow h) [
+        | inl own ↦ safe.overflow own
+        | inr its ↦ below_rank_up f.goal goal asks.0 f.replies depth f.available safe.fitting asks.1
+            (allowed.is_next e) (safe_outcome.overflow its)
+      ]
 
   -- They stay safe when its question gets a safe answer.
   pub answer_keeps_safe :
@@ -115,9 +167,15 @@ module _ {I R : Type 0} (scripts : I → List (Reply R) → Request I R) where
       let less : depth < f.available = allowed.is_less in
       let old : f.required ≤ f.available = safe.0.within in (
         record {
-          fitting = (answer_fits (λ _ _. Unit {0}) (request_after (scripts f.goal) f.replies) asks.0 goal o.result asks.1 tt, safe.0.fitting);
-          values = λ e. let none = or_parts f.met_overflow o.met_overflow e in
-              (answer_fits (IsPlain scripts) (request_after (scripts f.goal) f.replies) asks.0 goal o.result asks.1 (safe_outcome.value none.1), safe.0.values none.0);
+          fitting = (
+            answer_fits (λ _ _. Unit {0}) (request_after (scripts f.goal) f.replies) asks.0 goal o.result asks.1 tt,
+            safe.0.fitting,
+          );
+          values = λ e. let none = or_parts f.met_overflow o.met_overflow e in (
+            answer_fits (IsPlain scripts) (request_after (scripts f.goal) f.replies) asks.0 goal
+                o.result asks.1 (safe_outcome.value none.1),
+            safe.0.values none.0,
+          );
           overflow = λ e. answer_overflow f goal depth o asks allowed safe_outcome safe.0 f.met_overflow refl e;
           before = safe.0.before;
           cycle = λ e. elim (or_cases f.in_cycle o.in_cycle e) [
@@ -137,9 +195,13 @@ module _ {I R : Type 0} (scripts : I → List (Reply R) → Request I R) where
       → AreSafe scripts (f ∷ below) → AreSafe scripts (refused f r ∷ below)
   refusal_keeps_safe f below goal r asks none safe = (
     record {
-      fitting = (answer_fits (λ _ _. Unit {0}) (request_after (scripts f.goal) f.replies) asks.0 goal r asks.1 tt, safe.0.fitting);
+      fitting = (
+        answer_fits (λ _ _. Unit {0}) (request_after (scripts f.goal) f.replies) asks.0 goal r asks.1 tt,
+        safe.0.fitting,
+      );
       values = λ e. absurd cc;
-      overflow = λ _ n p. let w = asked n f.goal goal asks.0 f.replies p safe.0.fitting asks.1 in let e : suc w.0 ≡ n = w.1 in omega arith;
+      overflow = λ _ n p. let w = asked n f.goal goal asks.0 f.replies p safe.0.fitting asks.1 in
+          let e : suc w.0 ≡ n = w.1 in omega arith;
       before = safe.0.before;
       cycle = safe.0.cycle;
       within = safe.0.within;
@@ -157,7 +219,8 @@ module _ {I R : Type 0} (scripts : I → List (Reply R) → Request I R) where
       fitting = tt;
       values = λ _. tt;
       overflow = λ e. absurd cc;
-      before = λ e. elim (or_cases f.met_before f.met_overflow e) [ inl b ↦ safe.0.before b | inr m ↦ safe.0.overflow m ];
+      before =
+          λ e. elim (or_cases f.met_before f.met_overflow e) [ inl b ↦ safe.0.before b | inr m ↦ safe.0.overflow m ];
       cycle = safe.0.cycle;
       within = safe.0.within;
     },
@@ -165,7 +228,8 @@ module _ {I R : Type 0} (scripts : I → List (Reply R) → Request I R) where
     safe.2,
   )
 
-  left_value : (f : Frame I R) (o : Outcome R) → LeavesOutcome scripts f o → IsSafe scripts f → f.met_overflow ≡ false → IsPlain scripts f.goal o.result
+  left_value : (f : Frame I R) (o : Outcome R) → LeavesOutcome scripts f o → IsSafe scripts f
+      → f.met_overflow ≡ false → IsPlain scripts f.goal o.result
   left_value f o leaves safe calm = elim leaves.result [
     | inl done ↦ plain_result f.goal f.replies o.result safe.fitting (safe.values calm) done
     | inr cycle ↦ no_rank_is_plain f.goal o.result (safe.cycle cycle)
@@ -180,7 +244,10 @@ module _ {I R : Type 0} (scripts : I → List (Reply R) → Request I R) where
       let small : f.required ≤ f.available = safe.within in
       record {
         value = λ e. left_value f o leaves safe (or_parts f.met_overflow f.met_before (sym leaves.met_overflow ∙ e)).0;
-        overflow = λ e. elim (or_cases f.met_overflow f.met_before (sym leaves.met_overflow ∙ e)) [ inl m ↦ safe.overflow m | inr b ↦ safe.before b ];
+        overflow = λ e. elim (or_cases f.met_overflow f.met_before (sym leaves.met_overflow ∙ e)) [
+          | inl m ↦ safe.overflow m
+          | inr b ↦ safe.before b
+        ];
         cycle = λ e. safe.cycle (leaves.in_cycle e);
         within = omega arith;
       }
@@ -189,10 +256,12 @@ module _ {I R : Type 0} (scripts : I → List (Reply R) → Request I R) where
   pub pop_keeps_safe :
       (child f : Frame I R) (below : List (Frame I R)) (o : Outcome R)
       → LeavesOutcome scripts child o → AreSafe scripts (child ∷ f ∷ below) → AreSafe scripts (answered f o ∷ below)
-  pop_keeps_safe child f below o leaves safe = answer_keeps_safe f below child.goal child.available o safe.1.0 safe.1.1 (left_is_safe child o leaves safe.0) safe.2
+  pop_keeps_safe child f below o leaves safe = answer_keeps_safe f below child.goal child.available o safe.1.0 safe.1.1
+      (left_is_safe child o leaves safe.0) safe.2
 
   -- the rank of the newest frame is at most that of each frame below it
-  falls : (goal : I) (f : Frame I R) (below : List (Frame I R)) (n : ℕ) → AreSafe scripts (f ∷ below) → IsOnStack scripts goal (f ∷ below) → IsPlainTo scripts n goal → (m : ℕ) × (m ≤ n) × IsPlainTo scripts m f.goal
+  falls : (goal : I) (f : Frame I R) (below : List (Frame I R)) (n : ℕ) → AreSafe scripts (f ∷ below)
+      → IsOnStack scripts goal (f ∷ below) → IsPlainTo scripts n goal → (m : ℕ) × (m ≤ n) × IsPlainTo scripts m f.goal
   falls goal f [] n safe on p = elim on [
     | inl e ↦ (n, omega arith, subst (λ g. IsPlainTo scripts n g) (sym e) p)
     | inr none ↦ absurd none
@@ -206,7 +275,9 @@ module _ {I R : Type 0} (scripts : I → List (Reply R) → Request I R) where
         let e : suc v.0 ≡ w.0 = v.1 in (v.0, omega arith, v.2)
   ]
 
-  no_rank_under : (goal : I) (f : Frame I R) (below : List (Frame I R)) → AreSafe scripts (f ∷ below) → Asks scripts f goal → IsOnStack scripts goal (f ∷ below) → (bound n : ℕ) → n < bound → IsPlainTo scripts n goal → ⊥
+  no_rank_under : (goal : I) (f : Frame I R) (below : List (Frame I R)) → AreSafe scripts (f ∷ below)
+      → Asks scripts f goal → IsOnStack scripts goal (f ∷ below) → (bound n : ℕ)
+      → n < bound → IsPlainTo scripts n goal → ⊥
   no_rank_under goal f below safe asks on zero n small p = omega arith
   no_rank_under goal f below safe asks on (suc bound) n small p =
       let w = falls goal f below n safe on p in
@@ -231,7 +302,8 @@ module _ {I R : Type 0} (scripts : I → List (Reply R) → Request I R) where
     within = within;
   }
 
-  no_overflow : (goal : I) (depth n : ℕ) (met : Bool) → IsPlainTo scripts n goal → n ≤ depth → (met ≡ true → IsBelowRank scripts goal depth) → met ≡ false
+  no_overflow : (goal : I) (depth n : ℕ) (met : Bool) → IsPlainTo scripts n goal → n ≤ depth
+      → (met ≡ true → IsBelowRank scripts goal depth) → met ≡ false
   no_overflow goal depth n met p fits low = false_from_ne_true met (λ e. let l : depth < n = low e n p in omega arith)
 
   -- Where the rank fits the depth, a safe answer is the plain value, without overflow and without heads.
@@ -251,7 +323,8 @@ module _ {I R : Type 0} (scripts : I → List (Reply R) → Request I R) where
   question_is_smaller f goal depth n safe p fits asks allowed =
       let w = asked n f.goal goal asks.0 f.replies p safe.fitting asks.1 in
       let e : suc w.0 ≡ n = w.1 in
-      let next : f.available ≡ suc depth = allowed.is_next (no_overflow f.goal f.available n f.met_overflow p fits safe.overflow) in
+      let next : f.available ≡ suc depth =
+      allowed.is_next (no_overflow f.goal f.available n f.met_overflow p fits safe.overflow) in
       (w.0, omega arith, w.2, omega arith)
 
   -- Frames that have room keep it when a goal is pushed.
@@ -276,7 +349,8 @@ module _ {I R : Type 0} (scripts : I → List (Reply R) → Request I R) where
       × (fault_after (scripts f.goal) f.replies ≡ None)
   room_is_enough f safe room = (
     λ goal asks none. let w = asked room.0 f.goal goal asks.0 f.replies room.1 safe.fitting asks.1 in
-        let e : suc w.0 ≡ room.0 = w.1 in let l : room.0 ≤ f.available = room.2 in let z : f.available ≡ 0 = none in omega arith,
+        let e : suc w.0 ≡ room.0 = w.1 in let l : room.0 ≤ f.available = room.2 in let z : f.available ≡ 0 = none in
+        omega arith,
     no_overflow f.goal f.available room.0 f.met_overflow room.1 room.2 safe.overflow,
     no_overflow f.goal f.available room.0 f.met_before room.1 room.2 safe.before,
     false_from_ne_true f.in_cycle (λ e. safe.cycle e room.0 room.1),

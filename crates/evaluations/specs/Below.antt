@@ -9,5 +9,6 @@ pub use Rattle.search_context.specs.Run.{request_after}
 pub use Rattle.search_context.specs.declared.context.Reply.{Reply}
 pub use Rattle.search_context.specs.declared.context.Reply.TheVariants.{Answer, Begin, Noted}
 pub use Rattle.search_context.specs.declared.context.Request.{Request}
-pub use Rattle.search_context.specs.declared.context.Request.TheVariants.{Done, EnterCandidate, Evaluate, FinishCandidate}
+pub use Rattle.search_context.specs.declared.context.Request.TheVariants.{Done, EnterCandidate}
+pub use Rattle.search_context.specs.declared.context.Request.TheVariants.{Evaluate, FinishCandidate}
 pub use Rattle.search_context.specs.declared.context.Request.TheVariants.{Ignore}

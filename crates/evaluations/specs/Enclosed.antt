@@ -1,4 +1,5 @@
--- Goals that no question leads out of. An evaluation of one of them that has depth enough for all of them refuses no question.
+-- Goals that no question leads out of. An evaluation of one of them that has depth enough for all of
+-- them refuses no question.
 use Rattle.std.specs.Prelude.{ℕ, ◌≤◌, List, [], ◌∷◌, length, Contains}
 use Rattle.evaluations.specs.Below.{AsksOnly, Request, Reply}
 use Rattle.evaluations.specs.Frames.{Frame}
@@ -8,7 +9,8 @@ use Rattle.evaluations.specs.Price.{HaveFullDepths}
 module _ {I R : Type 0} (scripts : I → List (Reply R) → Request I R) where
   -- whatever is answered, each question that one of the goals asks is one of them, too
   abbrev pub NoQuestionLeadsOut : List I → Type 0
-  NoQuestionLeadsOut goals = (goal : I) → Contains goals goal → AsksOnly (λ _ asked. Contains goals asked) (scripts goal)
+  NoQuestionLeadsOut goals =
+      (goal : I) → Contains goals goal → AsksOnly (λ _ asked. Contains goals asked) (scripts goal)
 
   -- The goal is one of these, no question leads out of them, and they are no more than the depth.
   pub record IsEnclosed (goals : List I) (depth : ℕ) (goal : I) : Type 0 where

@@ -1,8 +1,9 @@
--- An evaluation as a whole: its moves, and what holds between them. In each state the newest frame is about to take a step,
--- with its newest reply.
+-- An evaluation as a whole: its moves, and what holds between them. In each state the newest frame is about to take a
+-- step, with its newest reply.
 use Rattle.std.specs.Prelude.{◌≡◌, ℕ, ◌+◌, ◌<◌, ◌≤◌, Bool, true, false, List, [], ◌∷◌, ◌⊎◌}
 use Rattle.evaluations.specs.Below.{Request, Reply, Begin, CountsOne, IsPlainValue, IsPlainTo, request_after, IsReplyTo}
-use Rattle.evaluations.specs.Frames.{Frame, Outcome, fresh, stepped, replied, answered, refused, run_again, Asks, IsAllowed}
+use Rattle.evaluations.specs.Frames.{Frame, Outcome, fresh, stepped, replied, answered, refused, run_again}
+use Rattle.evaluations.specs.Frames.{Asks, IsAllowed}
 use Rattle.evaluations.specs.Plain.{IsSafeOutcome, AreSafe, LeavesOutcome, HaveRoom, IsOnStack}
 use Rattle.evaluations.specs.Starts.{StaysWithin, steps_ahead}
 use Rattle.evaluations.specs.Price.{HasCounted, IsPrice, IsPriced, IsPaid}
@@ -18,8 +19,8 @@ pub record State (I R : Type 0) : Type 0 where
 abbrev pub at : {I R : Type 0} → List (Frame I R) → ℕ → Bool → State I R
 at frames starts limits_met = record { frames = frames; starts = starts; limits_met = limits_met }
 
--- the limits of an evaluation: runs of a goal, steps of a frame, depth of the root, where the count of starts ends, and what
--- it was before; and goals of which no overflow result was stored before
+-- the limits of an evaluation: runs of a goal, steps of a frame, depth of the root, where the count of starts ends, and
+-- what it was before; and goals of which no overflow result was stored before
 pub record Limits (I : Type 0) : Type 0 where
   pub runs : ℕ
   pub width : ℕ
@@ -39,9 +40,10 @@ IsRooted top root [] = ⊥
 IsRooted top root (f ∷ []) = (f.goal ≡ top) × (f.available ≡ root)
 IsRooted top root (f ∷ g ∷ below) = IsRooted top root (g ∷ below)
 
--- An evaluation of the goal `top`. `is_counted`: each start counts one, and before the evaluation no limit was met and no overflow
--- result was stored that it may use.
-module _ {I R : Type 0} (scripts : I → List (Reply R) → Request I R) (limits : Limits I) (is_counted : Type 0) (top : I) where
+-- An evaluation of the goal `top`. `is_counted`: each start counts one, and before the evaluation no limit was met and
+-- no overflow result was stored that it may use.
+module _ {I R : Type 0} (scripts : I → List (Reply R) → Request I R) (limits : Limits I)
+    (is_counted : Type 0) (top : I) where
   -- no question leads out of the goals of which no overflow result was stored, and there is depth enough for them
   abbrev pub EvaluationIsEnclosed : Type 0
   EvaluationIsEnclosed = IsEnclosed scripts limits.goals limits.root top
@@ -55,8 +57,10 @@ module _ {I R : Type 0} (scripts : I → List (Reply R) → Request I R) (limits
   pub data Move : State I R → State I R → Type 0 where
     Pushed :
         {f : Frame I R} {below : List (Frame I R)} {goal : I} {depth left first starts now : ℕ} {met : Bool}
-        → left < f.left → Asks scripts f goal → IsAllowed f depth → (IsOnStack scripts goal (f ∷ below) → ⊥) → first ≤ limits.width → IsStarted limits.last is_counted starts now
-        → Move (at (f ∷ below) starts met) (at (replied (fresh goal depth first) Begin ∷ stepped f left ∷ below) now met)
+        → left < f.left → Asks scripts f goal → IsAllowed f depth → (IsOnStack scripts goal (f ∷ below) → ⊥)
+        → first ≤ limits.width → IsStarted limits.last is_counted starts now
+        → Move (at (f ∷ below) starts met)
+        (at (replied (fresh goal depth first) Begin ∷ stepped f left ∷ below) now met)
     Noted :
         {f : Frame I R} {below : List (Frame I R)} {left starts : ℕ} {met : Bool} {reply : Reply R}
         → left < f.left → IsReplyTo (λ _ _. ⊥) (request_after (scripts f.goal) f.replies) reply
@@ -72,7 +76,8 @@ module _ {I R : Type 0} (scripts : I → List (Reply R) → Request I R) (limits
         → Move (at (f ∷ below) starts met) (at (refused (stepped f left) r ∷ below) starts true)
     RunAgain :
         {f : Frame I R} {below : List (Frame I R)} {left first starts now : ℕ} {met : Bool}
-        → left < f.left → f.finished_runs + 1 < limits.runs → first ≤ limits.width → IsStarted limits.last is_counted starts now
+        → left < f.left → f.finished_runs + 1 < limits.runs → first ≤ limits.width
+        → IsStarted limits.last is_counted starts now
         → Move (at (f ∷ below) starts met) (at (replied (run_again (stepped f left) first) Begin ∷ below) now met)
     Popped :
         {child f : Frame I R} {below : List (Frame I R)} {left starts : ℕ} {met : Bool} {o : Outcome R}
@@ -90,7 +95,8 @@ module _ {I R : Type 0} (scripts : I → List (Reply R) → Request I R) (limits
     pub room : (n : ℕ) → IsPlainTo scripts n top → n ≤ limits.root → HaveRoom scripts s.frames
     pub within : StaysWithin limits.runs limits.width bound s.starts s.frames
     pub enclosed : EvaluationIsEnclosed → StayEnclosed scripts limits.goals limits.root s.frames
-    pub priced : (price : ℕ) → IsPrice limits.runs limits.root EvaluationIsEnclosed price → is_counted → IsPriced price limits.root limits.last limits.before s.starts s.limits_met s.frames
+    pub priced : (price : ℕ) → IsPrice limits.runs limits.root EvaluationIsEnclosed price → is_counted
+        → IsPriced price limits.root limits.last limits.before s.starts s.limits_met s.frames
 
   -- what a loop over the moves needs of each
   pub record GoesOn (bound : ℕ) (old new : State I R) : Type 0 where
@@ -100,13 +106,16 @@ module _ {I R : Type 0} (scripts : I → List (Reply R) → Request I R) (limits
   -- the promises at the end
   pub record Ends (bound starts : ℕ) (limits_met : Bool) (o : Outcome R) : Type 0 where
     pub safe : IsSafeOutcome scripts top limits.root o
-    pub plain : (n : ℕ) → IsPlainTo scripts n top → n ≤ limits.root → IsPlainValue scripts n top o.result × (o.met_overflow ≡ false) × (o.in_cycle ≡ false)
+    pub plain : (n : ℕ) → IsPlainTo scripts n top → n ≤ limits.root
+        → IsPlainValue scripts n top o.result × (o.met_overflow ≡ false) × (o.in_cycle ≡ false)
     pub within : starts ≤ bound
     pub paid : is_counted → limits_met ≡ true → IsPaid limits.runs limits.root limits.last limits.before starts
-    pub by_runs : is_counted → EvaluationIsEnclosed → limits_met ≡ true → HasCounted limits.last limits.before starts limits.runs
+    pub by_runs : is_counted → EvaluationIsEnclosed → limits_met ≡ true
+        → HasCounted limits.last limits.before starts limits.runs
 
   -- the promises of an evaluation that stops with a fault
   pub record Stops (bound starts : ℕ) (limits_met : Bool) : Type 0 where
     pub within : starts ≤ bound
     pub paid : is_counted → limits_met ≡ true → IsPaid limits.runs limits.root limits.last limits.before starts
-    pub by_runs : is_counted → EvaluationIsEnclosed → limits_met ≡ true → HasCounted limits.last limits.before starts limits.runs
+    pub by_runs : is_counted → EvaluationIsEnclosed → limits_met ≡ true
+        → HasCounted limits.last limits.before starts limits.runs

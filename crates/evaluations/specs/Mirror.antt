@@ -1,5 +1,5 @@
--- How a search's list of items, of which the newest stands first, mirrors the frames: an item gives all of its frame but the
--- replies, at which it stands.
+-- How a search's list of items, of which the newest stands first, mirrors the frames: an item gives all of its frame
+-- but the replies, at which it stands.
 use Rattle.std.specs.Prelude.{◌≡◌, ℕ, ◌<◌, List, [], ◌∷◌, map, Bool, true, ◌⊎◌, Some, ◌||◌}
 use Rattle.evaluations.specs.Below.{Request, Reply, request_after, IsFitting}
 use Rattle.evaluations.specs.Frames.{Frame, Outcome, stepped}
@@ -33,7 +33,8 @@ module _ {E I R : Type 0} (seen : E → Frame I R) (stands : E → List (Reply R
   Mirror reply (e ∷ es) (f ∷ fs) = IsPending reply e f × AreSeen es fs
   Mirror reply _ _ = ⊥
 
-  module _ (scripts : I → List (Reply R) → Request I R) (limits : Limits I) (is_counted : Type 0) (top : I) (bound : ℕ) where
+  module _ (scripts : I → List (Reply R) → Request I R) (limits : Limits I)
+      (is_counted : Type 0) (top : I) (bound : ℕ) where
     -- the loop's measure
     abbrev pub work : List E → ℕ
     work items = steps_ahead limits.runs limits.width (map seen items)
@@ -45,7 +46,8 @@ module _ {E I R : Type 0} (seen : E → Frame I R) (stands : E → List (Reply R
       pub evaluating : IsEvaluating scripts limits is_counted top bound (at frames starts met)
 
     -- the newest item took its step, and has requested; `ahead` was the work before
-    pub record HasRequested (ahead : ℕ) (request : Request I R) (items : List E) (starts : ℕ) (met : Bool) : Type 0 where
+    pub record HasRequested (ahead : ℕ) (request : Request I R) (items : List E)
+        (starts : ℕ) (met : Bool) : Type 0 where
       pub f : Frame I R
       pub below : List (Frame I R)
       pub left : ℕ
@@ -55,7 +57,8 @@ module _ {E I R : Type 0} (seen : E → Frame I R) (stands : E → List (Reply R
       pub ahead_is : steps_ahead limits.runs limits.width (f ∷ below) ≡ ahead
       pub mirror : AreSeen items (stepped f left ∷ below)
 
-module _ {E I R : Type 0} (seen : E → Frame I R) (stands : E → List (Reply R) → Type 0) (scripts : I → List (Reply R) → Request I R) where
+module _ {E I R : Type 0} (seen : E → Frame I R) (stands : E → List (Reply R) → Type 0)
+    (scripts : I → List (Reply R) → Request I R) where
   -- an item took its step, as the delegate says
   pub record TakesStep (reply : Reply R) (request : Request I R) (old new : E) : Type 0 where
     pub falls : (seen new).left < (seen old).left
@@ -67,7 +70,8 @@ module _ {E I R : Type 0} (seen : E → Frame I R) (stands : E → List (Reply R
 
   -- an item changed as its frame did, with a new reply
   pub record TakesReply (change : Frame I R → Frame I R) (reply : Reply R) (old new : E) : Type 0 where
-    pub same : (replies : List (Reply R)) → change (with_replies (seen old) replies) ≡ with_replies (seen new) (reply ∷ replies)
+    pub same : (replies : List (Reply R))
+        → change (with_replies (seen old) replies) ≡ with_replies (seen new) (reply ∷ replies)
     pub stood : (replies : List (Reply R)) → stands old replies → stands new replies
 
 -- what is left of an item whose run ended with r

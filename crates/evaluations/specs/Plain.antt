@@ -1,7 +1,8 @@
--- Goals with a rank answer their plain values: what holds of each frame, each outcome and each stored result. Nothing is
--- said of a goal that has no rank, so frames of both sorts stand on one stack.
+-- Goals with a rank answer their plain values: what holds of each frame, each outcome and each stored result. Nothing
+-- is said of a goal that has no rank, so frames of both sorts stand on one stack.
 use Rattle.std.specs.Prelude.{◌≡◌, ℕ, ◌≤◌, true, false, List, [], ◌∷◌, Some, ◌⊎◌, ◌||◌}
-use Rattle.evaluations.specs.Below.{Request, Done, Reply, request_after, AreRepliesTo, IsFitting, IsPlainTo, HasNoRank, IsPlain, IsBelowRank}
+use Rattle.evaluations.specs.Below.{Request, Done, Reply, request_after, AreRepliesTo, IsFitting, IsPlainTo, HasNoRank}
+use Rattle.evaluations.specs.Below.{IsPlain, IsBelowRank}
 use Rattle.evaluations.specs.Frames.{Frame, Outcome, AsksAt}
 
 module _ {I R : Type 0} (scripts : I → List (Reply R) → Request I R) where
@@ -12,8 +13,8 @@ module _ {I R : Type 0} (scripts : I → List (Reply R) → Request I R) where
     pub cycle : o.in_cycle ≡ true → HasNoRank scripts goal
     pub within : o.required ≤ depth
 
-  -- What holds of a frame: if its goal has a rank, its replies are plain values while it met no overflow, its depth is below
-  -- the rank if it did, and it is in no cycle.
+  -- What holds of a frame: if its goal has a rank, its replies are plain values while it met no overflow, its depth is
+  -- below the rank if it did, and it is in no cycle.
   pub record IsSafe (f : Frame I R) : Type 0 where
     pub fitting : IsFitting (scripts f.goal) f.replies
     pub values : f.met_overflow ≡ false → AreRepliesTo (IsPlain scripts) (scripts f.goal) f.replies

@@ -1,5 +1,5 @@
--- What it costs to meet a limit, where each start is counted: until then no frame met overflow, so depths fall by one from
--- frame to frame, and each frame and each of its runs was counted.
+-- What it costs to meet a limit, where each start is counted: until then no frame met overflow, so depths fall by one
+-- from frame to frame, and each frame and each of its runs was counted.
 use Rattle.std.specs.Prelude.{◌≡◌, ℕ, ◌+◌, ◌≤◌, min, Bool, true, false, List, [], ◌∷◌, length, ◌⊎◌}
 use Rattle.evaluations.specs.Frames.{Frame}
 
@@ -11,8 +11,8 @@ HasCounted last before now many = (before + many ≤ now) ⊎ (last ≤ now)
 abbrev pub IsPaid : (runs root last before now : ℕ) → Type 0
 IsPaid runs root last before now = HasCounted last before now (min runs (root + 1))
 
--- each limit costs so much at least: no more than the runs of one goal, nor, unless no question is refused, than the frames from the
--- root to depth 0
+-- each limit costs so much at least: no more than the runs of one goal, nor, unless no question is refused, than the
+-- frames from the root to depth 0
 pub record IsPrice (runs root : ℕ) (none_refused : Type 0) (price : ℕ) : Type 0 where
   pub of_runs : price ≤ runs
   pub of_depth : (price ≤ root + 1) ⊎ none_refused
@@ -22,7 +22,8 @@ module _ {I R : Type 0} where
   abbrev pub HaveFullDepths : (root : ℕ) → List (Frame I R) → Type 0
   HaveFullDepths root [] = Unit {0}
   HaveFullDepths root (f ∷ below) =
-      (f.available + length below ≡ root) × (f.met_overflow ≡ false) × (f.met_before ≡ false) × HaveFullDepths root below
+      (f.available + length below ≡ root) × (f.met_overflow ≡ false)
+      × (f.met_before ≡ false) × HaveFullDepths root below
 
   -- the frames that were started for the goals on the stack
   abbrev pub frames_started : List (Frame I R) → ℕ

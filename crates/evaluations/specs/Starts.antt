@@ -11,7 +11,8 @@ frames_below runs width (suc depth) = frames_within runs width depth
 module _ {I R : Type 0} (runs width : ℕ) where
   -- for each step that is left of this run a question, and for each run that is left a frame and its steps
   abbrev pub frames_ahead_of : Frame I R → ℕ
-  frames_ahead_of f = f.left * frames_below runs width f.available + (runs - (f.finished_runs + 1)) * (1 + width * frames_below runs width f.available)
+  frames_ahead_of f = f.left * frames_below runs width f.available
+      + (runs - (f.finished_runs + 1)) * (1 + width * frames_below runs width f.available)
 
   -- the frames that may still be started
   abbrev pub frames_ahead : List (Frame I R) → ℕ

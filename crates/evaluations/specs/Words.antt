@@ -1,8 +1,10 @@
 -- The words of this crate, from one place.
 pub use Rattle.evaluations.specs.Enclosed.{AreDistinct, IsEnclosed, StayEnclosed}
-pub use Rattle.evaluations.specs.Evaluation.{Answered, at, Ends, GoesOn, MeetsNone, IsEvaluating, IsRooted, IsStarted, Limits}
+pub use Rattle.evaluations.specs.Evaluation.{Answered, at, Ends, GoesOn, MeetsNone, IsEvaluating, IsRooted}
+pub use Rattle.evaluations.specs.Evaluation.{IsStarted, Limits}
 pub use Rattle.evaluations.specs.Evaluation.{Move, Popped, PoppedAtLimit, Pushed, Refused, RunAgain, State, Stops}
-pub use Rattle.evaluations.specs.EvaluationLaws.{EnclosedRefusesNone, EvaluationStops, FailedStartStops, FittingMeetsNoLimit, LastFrameEnds}
+pub use Rattle.evaluations.specs.EvaluationLaws.{EnclosedRefusesNone, EvaluationStops, FailedStartStops}
+pub use Rattle.evaluations.specs.EvaluationLaws.{FittingMeetsNoLimit, LastFrameEnds}
 pub use Rattle.evaluations.specs.EvaluationLaws.{LastRunEnds, MoveGoesOn, RootIsEvaluating}
 pub use Rattle.evaluations.specs.Frames.{answered, Asks, AsksAt, Frame, fresh, IsAllowed, Outcome, refused, replied}
 pub use Rattle.evaluations.specs.Frames.{run_again, stepped}

@@ -19,5 +19,7 @@ pub record IsTurn (positions : List Position) (at : ℕ) (player : Player) (move
 -- A tree that says how One wins: on One's turn it has a move and a strategy from there, and on Two's a strategy from
 -- wherever Two moves. It has no path without end, so play ends, with Two to move and without a move.
 pub data Strategy (positions : List Position) : ℕ → Type 0 where
-  move : {at : ℕ} (moves : List ℕ) (next : ℕ) → IsTurn positions at One moves → Contains moves next → Strategy positions next → Strategy positions at
-  reply : {at : ℕ} (moves : List ℕ) → IsTurn positions at Two moves → ((next : ℕ) → Contains moves next → Strategy positions next) → Strategy positions at
+  move : {at : ℕ} (moves : List ℕ) (next : ℕ) → IsTurn positions at One moves → Contains moves next
+      → Strategy positions next → Strategy positions at
+  reply : {at : ℕ} (moves : List ℕ) → IsTurn positions at Two moves
+      → ((next : ℕ) → Contains moves next → Strategy positions next) → Strategy positions at

@@ -1,4 +1,5 @@
--- What a cache holds: its context, the list of nodes of which graphs of answers are made, and the results that are stored.
+-- What a cache holds: its context, the list of nodes of which graphs of answers are made, and the
+-- results that are stored.
 use Rattle.std.specs.Prelude.{List}
 use Rattle.graph_nodes.specs.Nodes.{CacheNode}
 use Rattle.global_cache.specs.declared.results.StoredResult.{StoredResult}

@@ -1,5 +1,6 @@
 -- The results that a cache stores: of each goal at most one success, and for each depth at most one overflow result.
-use Rattle.std.specs.Prelude.{◌≡◌, ℕ, ◌==◌, ◌&&◌, Bool, true, false, if◌then◌else◌, List, Option, None, Some, Result, Ok, Err, IfErr, []}
+use Rattle.std.specs.Prelude.{◌≡◌, ℕ, ◌==◌, ◌&&◌, Bool, true, false, if◌then◌else◌, List, Option, None, Some, Result}
+use Rattle.std.specs.Prelude.{Ok, Err, IfErr, []}
 use Rattle.std.specs.Hash.{HashWrites, usize}
 use Rattle.std.specs.Map.{lookup}
 use Rattle.std.specs.Option.{IsSomeAnd}
@@ -40,18 +41,23 @@ stored_at same store input place = lookup (same_key same (input, place)) store
 
 -- where it is not said that a result that met overflow was stored, there is none
 abbrev pub TellsOverflow : {I S : Type 0} → (I → I → Bool) → Bool → Store I S → Type 0
-TellsOverflow {I} same is_said store = is_said ≡ false → (input : I) (depth : ℕ) → stored_at same store input (WithOverflow depth) ≡ None
+TellsOverflow {I} same is_said store =
+    is_said ≡ false → (input : I) (depth : ℕ) → stored_at same store input (WithOverflow depth) ≡ None
 
 -- the new store has this at the place of the goal, and everywhere else what the old one has
-pub record Puts {I S : Type 0} (same : I → I → Bool) (old new : Store I S) (input : I) (place : Place) (stored : S) : Type 0 where
+pub record Puts {I S : Type 0} (same : I → I → Bool) (old new : Store I S) (input : I)
+    (place : Place) (stored : S) : Type 0 where
   pub here : stored_at same new input place ≡ Some stored
-  pub others : (other : I) (at : Place) → same_key same (input, place) (other, at) ≡ false → stored_at same new other at ≡ stored_at same old other at
+  pub others : (other : I) (at : Place) → same_key same (input, place) (other, at) ≡ false
+      → stored_at same new other at ≡ stored_at same old other at
 
 -- each stored result is still in its place, or an equal one is
-abbrev pub KeepsResults : {X I R A T : Type 0} → (I → I → Bool) → Store I (StoredResult X I R A T) → Store I (StoredResult X I R A T) → Type 0
+abbrev pub KeepsResults : {X I R A T : Type 0} → (I → I → Bool) → Store I (StoredResult X I R A T)
+    → Store I (StoredResult X I R A T) → Type 0
 KeepsResults {X} {I} {R} {A} {T} same old new =
     (input : I) (place : Place) (s : StoredResult X I R A T)
-    → stored_at same old input place ≡ Some s → IsSomeAnd (stored_at same new input place) (λ t. t.result.result ≡ s.result.result)
+    → stored_at same old input place ≡ Some s
+    → IsSomeAnd (stored_at same new input place) (λ t. t.result.result ≡ s.result.result)
 
 -- where a result of a goal belongs
 abbrev pub place_of : {X I R A T : Type 0} → EvaluationResult X I R A T → Place
@@ -66,9 +72,10 @@ stored_from evaluated token = record {
   node = evaluated.node;
 }
 
--- The answer of storing a result of a goal, by what is stored in its place: where that is an equal result, `Ok`; where it
--- is another one, the conflict of the two; where nothing is, `Ok` or that memory is out.
-abbrev pub AnswersStoring : {X I R A T : Type 0} → (R → R → Bool) → I → Option (StoredResult X I R A T) → R → Result (Unit {0}) (Fault I R) → Type 0
+-- The answer of storing a result of a goal, by what is stored in its place: where that is an equal result, `Ok`; where
+-- it is another one, the conflict of the two; where nothing is, `Ok` or that memory is out.
+abbrev pub AnswersStoring : {X I R A T : Type 0} → (R → R → Bool) → I → Option (StoredResult X I R A T) → R
+    → Result (Unit {0}) (Fault I R) → Type 0
 AnswersStoring same input (Some s) found answer =
     answer ≡ (if same s.result.result found then Ok tt else Err (Conflict input s.result.result found))
 AnswersStoring same input None found answer = IfErr answer (λ fault. fault ≡ Memory)

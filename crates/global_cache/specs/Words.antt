@@ -4,7 +4,8 @@ pub use Rattle.global_cache.specs.Hits.{first_accepted, hit_at, overflows, succe
 pub use Rattle.search_stack.specs.Hit.{Hit, hit_of}
 pub use Rattle.global_cache.specs.Rooted.{AreRooted}
 pub use Rattle.global_cache.specs.Sound.{IsSoundCache}
-pub use Rattle.global_cache.specs.Store.{AnswersStoring, is_of_overflow, KeepsResults, place_of, Puts, same_key, same_place, Store}
+pub use Rattle.global_cache.specs.Store.{AnswersStoring, is_of_overflow, KeepsResults, place_of, Puts, same_key}
+pub use Rattle.global_cache.specs.Store.{same_place, Store}
 pub use Rattle.global_cache.specs.Store.{stored_at, stored_from, TellsOverflow}
 pub use Rattle.global_cache.specs.Stored.{AreSoundResults, IsPlainAt, IsSoundResult}
 pub use Rattle.search_stack.specs.declared.result.CacheData.{CacheData}

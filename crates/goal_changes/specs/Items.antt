@@ -5,8 +5,10 @@ use Rattle.goal_changes.specs.Entries.{TakesAnswer, rerun_under}
 use Rattle.goal_changes.specs.OpenGoal.{OpenGoal}
 
 module _ {X F I R A T : Type 0} where
-  -- the newest goal takes an answer over the step, with the depth that this required, whether it met overflow, and its heads
-  pub record AnswersNewest (step : PathKind) (required : ℕ) (overflow : Bool) (answer : Heads) (old new : List (OpenGoal X F I R A T)) : Type 0 where
+  -- the newest goal takes an answer over the step, with the depth that this required, whether it met
+  -- overflow, and its heads
+  pub record AnswersNewest (step : PathKind) (required : ℕ) (overflow : Bool) (answer : Heads)
+      (old new : List (OpenGoal X F I R A T)) : Type 0 where
     pub entry : StackEntry X I R A T
     pub run : Run X F I R A T
     pub below : List (OpenGoal X F I R A T)
@@ -23,5 +25,11 @@ module _ {X F I R A T : Type 0} where
   abbrev pub rerun_with : R → Option NodeId → F → NodeId → OpenGoal X F I R A T → OpenGoal X F I R A T
   rerun_with r target frame own s = (
     record s.0 { state = rerun_under r target s.0.state },
-    record s.1 { frame = frame; node = own; finished_runs = s.1.finished_runs + 1; met_overflow_before = s.1.met_overflow_before || s.0.state.encountered_overflow; candidates = [] },
+    record s.1 {
+      frame = frame;
+      node = own;
+      finished_runs = s.1.finished_runs + 1;
+      met_overflow_before = s.1.met_overflow_before || s.0.state.encountered_overflow;
+      candidates = [];
+    },
   )

@@ -1,5 +1,6 @@
 -- Goals that stand in a list: how one is found there, and what joins paths to it.
-use Rattle.std.proofs.Common.{◌≡◌, ℕ, zero, suc, ◌<◌, Bool, true, false, cond, List, [], ◌∷◌, ◌++◌, length, get_or, slice_set, Some, None, refl, sym, ap, subst, ◌∙◌, inl, inr, arith}
+use Rattle.std.proofs.Common.{◌≡◌, ℕ, zero, suc, ◌<◌, Bool, true, false, cond, List, [], ◌∷◌, ◌++◌, length, get_or}
+use Rattle.std.proofs.Common.{slice_set, Some, None, refl, sym, ap, subst, ◌∙◌, inl, inr, arith}
 use Rattle.std.proofs.lemmas.Bool.{cases_Bool}
 use Rattle.std.proofs.lemmas.List.{map-append}
 use Rattle.std.proofs.lemmas.List.Quantifiers.{position-Some}
@@ -30,11 +31,13 @@ module _ {I V : Type 0} (test : I → Bool) where
     | inl passes ↦ absurd (let there : list_any (λ e. test e.0) (e ∷ es) ≡ true = rw passes refl in cc)
     | inr fails ↦
         ap (λ b. cond b (Some e.1) (lookup test es)) fails
-        ∙ lookup_none es (let rest : list_any (λ e. test e.0) (e ∷ es) ≡ list_any (λ e. test e.0) es = rw fails refl in sym rest ∙ none)
+        ∙ lookup_none es
+        (let rest : list_any (λ e. test e.0) (e ∷ es) ≡ list_any (λ e. test e.0) es = rw fails refl in sym rest ∙ none)
   ]
 
   -- another value for the first entry whose key passes
-  set_here : (es : List (I × V)) (i : ℕ) (d : I × V) (key : I) (value : V) → i < length es → key ≡ (get_or es i d).0 → test key ≡ true
+  set_here : (es : List (I × V)) (i : ℕ) (d : I × V) (key : I) (value : V) → i < length es
+      → key ≡ (get_or es i d).0 → test key ≡ true
       → ((k : ℕ) → k < i → test (get_or es k d).0 ≡ false) → lookup test (slice_set es i (key, value)) ≡ Some value
   set_here [] i d key value inside is passes before = absurd (omega arith)
   set_here (e ∷ es) zero d key value inside is passes before = ap (λ b. cond b (Some value) (lookup test es)) passes
@@ -43,7 +46,8 @@ module _ {I V : Type 0} (test : I → Bool) where
       ∙ set_here es i d key value (omega arith) is passes (λ k below. before (suc k) (omega arith))
 
   -- a key that does not pass is passed over, whatever its value
-  set_other : (es : List (I × V)) (i : ℕ) (d : I × V) (key : I) (value : V) → i < length es → key ≡ (get_or es i d).0 → test key ≡ false
+  set_other : (es : List (I × V)) (i : ℕ) (d : I × V) (key : I) (value : V) → i < length es
+      → key ≡ (get_or es i d).0 → test key ≡ false
       → lookup test (slice_set es i (key, value)) ≡ lookup test es
   set_other [] i d key value inside is fails = absurd (omega arith)
   set_other (e ∷ es) zero d key value inside is fails =
@@ -53,21 +57,25 @@ module _ {I V : Type 0} (test : I → Bool) where
       ap (cond (test e.0) (Some e.1)) (set_other es i d key value (omega arith) is fails)
 
   -- one more entry at the end
-  push_here : (es : List (I × V)) (key : I) (value : V) → test key ≡ true → lookup test es ≡ None → lookup test (es ++ (key, value) ∷ []) ≡ Some value
+  push_here : (es : List (I × V)) (key : I) (value : V) → test key ≡ true → lookup test es ≡ None
+      → lookup test (es ++ (key, value) ∷ []) ≡ Some value
   push_here [] key value passes none = ap (λ b. cond b (Some value) None) passes
   push_here (e ∷ es) key value passes none = elim (cases_Bool (test e.0)) [
     | inl found ↦ absurd (let there : lookup test (e ∷ es) ≡ Some e.1 = rw found refl in cc)
     | inr fails ↦
         ap (λ b. cond b (Some e.1) (lookup test (es ++ (key, value) ∷ []))) fails
-        ∙ push_here es key value passes (let rest : lookup test (e ∷ es) ≡ lookup test es = rw fails refl in sym rest ∙ none)
+        ∙ push_here es key value passes
+        (let rest : lookup test (e ∷ es) ≡ lookup test es = rw fails refl in sym rest ∙ none)
   ]
 
-  push_other : (es : List (I × V)) (key : I) (value : V) → test key ≡ false → lookup test (es ++ (key, value) ∷ []) ≡ lookup test es
+  push_other : (es : List (I × V)) (key : I) (value : V) → test key ≡ false
+      → lookup test (es ++ (key, value) ∷ []) ≡ lookup test es
   push_other [] key value fails = ap (λ b. cond b (Some value) None) fails
   push_other (e ∷ es) key value fails = ap (cond (test e.0) (Some e.1)) (push_other es key value fails)
 
 -- the keys stay where a value changes
-pub keys_of-set : {I V : Type 0} (es : List (I × V)) (i : ℕ) (d : I × V) (key : I) (value : V) → i < length es → key ≡ (get_or es i d).0
+pub keys_of-set : {I V : Type 0} (es : List (I × V)) (i : ℕ) (d : I × V) (key : I) (value : V)
+    → i < length es → key ≡ (get_or es i d).0
     → keys_of (slice_set es i (key, value)) ≡ keys_of es
 keys_of-set [] i d key value inside is = absurd (omega arith)
 keys_of-set (e ∷ es) zero d key value inside is = ap (λ k. k ∷ keys_of es) is
@@ -75,19 +83,24 @@ keys_of-set (e ∷ es) (suc i) d key value inside is = ap (λ ks. e.0 ∷ ks) (k
 
 module _ {I : Type 0} (same : I → I → Bool) where
   -- what is found at the place of a goal
-  pub paths_at-place : (goals : NestedPaths I) (input : I) (i : ℕ) (d : I × PathsToNested) → position (λ goal. same input goal.0) goals ≡ Some i
+  pub paths_at-place : (goals : NestedPaths I) (input : I) (i : ℕ) (d : I × PathsToNested)
+      → position (λ goal. same input goal.0) goals ≡ Some i
       → paths_at same goals input ≡ Some (get_or goals i d).1
   paths_at-place goals input i d at =
       let found = position-Some (λ goal. same input goal.0) goals i d at in
       lookup_at (same input) goals i d found.0 found.1 found.2
 
-  pub paths_at-no_place : (goals : NestedPaths I) (input : I) → position (λ goal. same input goal.0) goals ≡ None → paths_at same goals input ≡ None
-  paths_at-no_place goals input none = lookup_none (same input) goals (list_any_from_position (λ goal. same input goal.0) goals none)
+  pub paths_at-no_place : (goals : NestedPaths I) (input : I)
+      → position (λ goal. same input goal.0) goals ≡ None → paths_at same goals input ≡ None
+  paths_at-no_place goals input none =
+      lookup_none (same input) goals (list_any_from_position (λ goal. same input goal.0) goals none)
 
   module _ (laws : IsEquivalence same) where
     -- paths are joined to a goal of the list
-    pub joins_at-place : (goals : NestedPaths I) (input : I) (paths : PathsToNested) (i : ℕ) (d : I × PathsToNested) (key : I) (after : PathsToNested)
-        → position (λ goal. same input goal.0) goals ≡ Some i → key ≡ (get_or goals i d).0 → after ≡ union (get_or goals i d).1 paths
+    pub joins_at-place : (goals : NestedPaths I) (input : I) (paths : PathsToNested) (i : ℕ)
+        (d : I × PathsToNested) (key : I) (after : PathsToNested)
+        → position (λ goal. same input goal.0) goals ≡ Some i → key ≡ (get_or goals i d).0
+        → after ≡ union (get_or goals i d).1 paths
         → JoinsPaths same goals (slice_set goals i (key, after)) input paths
     joins_at-place goals input paths i d key after at is_key is_after =
         let found = position-Some (λ goal. same input goal.0) goals i d at in
@@ -97,7 +110,8 @@ module _ {I : Type 0} (same : I → I → Bool) where
               set_here (same input) goals i d key after found.0 is_key passes found.2
               ∙ ap Some is_after
               ∙ sym (ap (λ p. joined_paths p (Some paths)) (paths_at-place goals input i d at));
-          others = λ other apart. set_other (same other) goals i d key after found.0 is_key (laws.symm other key ∙ sym (laws.congr input key other passes) ∙ apart);
+          others = λ other apart. set_other (same other) goals i d key after found.0 is_key
+              (laws.symm other key ∙ sym (laws.congr input key other passes) ∙ apart);
         }
 
     -- a goal that is new comes last
@@ -114,4 +128,5 @@ module _ {I : Type 0} (same : I → I → Bool) where
         → IsDistinct same (keys_of goals) → IsDistinct same (keys_of (goals ++ (input, paths) ∷ []))
     distinct-end goals input paths none distinct =
         subst (IsDistinct same) (sym (map-append (λ e. e.0) goals ((input, paths) ∷ [])))
-        (IsDistinct-push laws (keys_of goals) input distinct (sym (is_some-lookup (same input) goals) ∙ ap is_some none))
+        (IsDistinct-push laws (keys_of goals) input distinct
+        (sym (is_some-lookup (same input) goals) ∙ ap is_some none))

@@ -1,5 +1,6 @@
 -- Lists of goals with the paths to them.
-use Rattle.std.proofs.Common.{◌≡◌, ℕ, ◌+◌, ◌≤◌, length, arith, Bool, true, false, List, [], ◌∷◌, cond, Option, Some, None, refl, sym, ap, ◌∙◌, subst, inl, inr}
+use Rattle.std.proofs.Common.{◌≡◌, ℕ, ◌+◌, ◌≤◌, length, arith, Bool, true, false, List, [], ◌∷◌, cond, Option, Some}
+use Rattle.std.proofs.Common.{None, refl, sym, ap, ◌∙◌, subst, inl, inr}
 use Rattle.std.proofs.lemmas.Bool.{cases_Bool}
 use Rattle.std.proofs.lemmas.Nat.{or_comm}
 use Rattle.std.proofs.lemmas.Map.Keys.{IsDistinct-head, IsDistinct-tail}
@@ -22,10 +23,13 @@ without_step None = refl
 without_step (Some paths) = refl
 
 -- own paths joined to those of a child, which were extended
-pub joined-taken : (step : PathKind) (own child extended_child : Option PathsToNested) → extended_child ≡ option_map (λ paths. extended paths step) child
-    → joined_paths extended_child (option_map (after_step None) own) ≡ joined_paths own (option_map (λ paths. extended paths step) child)
+pub joined-taken : (step : PathKind) (own child extended_child : Option PathsToNested)
+    → extended_child ≡ option_map (λ paths. extended paths step) child
+    → joined_paths extended_child (option_map (after_step None) own)
+    ≡ joined_paths own (option_map (λ paths. extended paths step) child)
 joined-taken step own child extended_child is =
-    ap (joined_paths extended_child) (without_step own) ∙ ap (λ paths. joined_paths paths own) is ∙ joined-swapped (option_map (λ paths. extended paths step) child) own
+    ap (joined_paths extended_child) (without_step own) ∙ ap (λ paths. joined_paths paths own) is
+    ∙ joined-swapped (option_map (λ paths. extended paths step) child) own
 
 joined-joined : (paths : Option PathsToNested) (more : PathsToNested)
     → joined_paths (joined_paths paths (Some more)) None ≡ joined_paths paths (Some more)
@@ -45,7 +49,8 @@ pub same_test : {I : Type 0} {same : I → I → Bool} → IsEquivalence same �
 same_test laws x y is = λ i z. laws.congr x y z is i
 
 module _ {I : Type 0} (same : I → I → Bool) where
-  absent_apart : (goals : NestedPaths I) (input : I) → AllByRecursion (λ other. same input other ≡ false) (keys_of goals)
+  absent_apart : (goals : NestedPaths I) (input : I)
+      → AllByRecursion (λ other. same input other ≡ false) (keys_of goals)
       → paths_at same goals input ≡ None
   absent_apart [] input apart = refl
   absent_apart (g ∷ goals) input apart = rw apart.0 (absent_apart goals input apart.1)
@@ -61,39 +66,50 @@ module _ {I : Type 0} (same : I → I → Bool) where
 
   module _ (laws : IsEquivalence same) where
     -- one goal less is left to be joined
-    pub joined-rest : (old new rest : NestedPaths I) (input : I) (paths : PathsToNested) (f : PathsToNested → PathsToNested)
+    pub joined-rest : (old new rest : NestedPaths I) (input : I)
+        (paths : PathsToNested) (f : PathsToNested → PathsToNested)
         → IsDistinct same (keys_of ((input, paths) ∷ rest)) → JoinsPaths same old new input (f paths) → (other : I)
         → joined_paths (paths_at same new other) (option_map f (paths_at same rest other))
         ≡ joined_paths (paths_at same old other) (option_map f (paths_at same ((input, paths) ∷ rest) other))
     joined-rest old new rest input paths f distinct joins other = elim (cases_Bool (same other input)) [
       | inl here ↦
-          subst (λ test. joined_paths (lookup test new) (option_map f (lookup test rest)) ≡ joined_paths (lookup test old) (option_map f (lookup test ((input, paths) ∷ rest)))) (sym (same_test laws other input here))
+          subst (λ test. joined_paths (lookup test new) (option_map f (lookup test rest))
+          ≡ joined_paths (lookup test old) (option_map f (lookup test ((input, paths) ∷ rest))))
+          (sym (same_test laws other input here))
           (ap (λ p. joined_paths p (option_map f (paths_at same rest input))) joins.here
-          ∙ ap (λ p. joined_paths (joined_paths (paths_at same old input) (Some (f paths))) (option_map f p)) (absent_later input paths rest distinct)
+          ∙ ap (λ p. joined_paths (joined_paths (paths_at same old input) (Some (f paths))) (option_map f p))
+          (absent_later input paths rest distinct)
           ∙ joined-joined (paths_at same old input) (f paths)
-          ∙ ap (λ b. joined_paths (paths_at same old input) (option_map f (cond b (Some paths) (paths_at same rest input)))) (sym (laws.refl input)))
+          ∙ ap (λ b. joined_paths (paths_at same old input)
+          (option_map f (cond b (Some paths) (paths_at same rest input)))) (sym (laws.refl input)))
       | inr apart ↦
-          ap (λ p. joined_paths p (option_map f (paths_at same rest other))) (joins.others other (laws.symm input other ∙ apart))
-          ∙ ap (λ b. joined_paths (paths_at same old other) (option_map f (cond b (Some paths) (paths_at same rest other)))) (sym apart)
+          ap (λ p. joined_paths p (option_map f (paths_at same rest other)))
+          (joins.others other (laws.symm input other ∙ apart))
+          ∙ ap (λ b. joined_paths (paths_at same old other)
+          (option_map f (cond b (Some paths) (paths_at same rest other)))) (sym apart)
     ]
 
 -- the rest of the goals of a child is still to be joined, and there is room for it
-pub record IsJoining {I : Type 0} (same : I → I → Bool) (f : PathsToNested → PathsToNested) (start goals all rest : NestedPaths I) (room : ℕ) : Type 0 where
+pub record IsJoining {I : Type 0} (same : I → I → Bool) (f : PathsToNested → PathsToNested)
+    (start goals all rest : NestedPaths I) (room : ℕ) : Type 0 where
   pub agrees : (input : I)
       → joined_paths (paths_at same goals input) (option_map f (paths_at same rest input))
       ≡ joined_paths (paths_at same start input) (option_map f (paths_at same all input))
   pub fits : length rest ≤ room
   pub distinct : IsDistinct same (keys_of rest)
 
-pub IsJoining-start : {I : Type 0} {same : I → I → Bool} (f : PathsToNested → PathsToNested) (start all : NestedPaths I) (room : ℕ)
+pub IsJoining-start : {I : Type 0} {same : I → I → Bool} (f : PathsToNested → PathsToNested)
+    (start all : NestedPaths I) (room : ℕ)
     → length all ≤ room → IsDistinct same (keys_of all) → IsJoining same f start start all all room
 IsJoining-start f start all room fits distinct = record { agrees = λ input. refl; fits = fits; distinct = distinct }
 
 pub IsJoining-more : {I : Type 0} {same : I → I → Bool} (laws : IsEquivalence same)
-    (f : PathsToNested → PathsToNested) (start goals new all left rest : NestedPaths I) (input : I) (paths after : PathsToNested) (room more : ℕ)
+    (f : PathsToNested → PathsToNested) (start goals new all left rest : NestedPaths I) (input : I)
+    (paths after : PathsToNested) (room more : ℕ)
     → left ≡ (input, paths) ∷ rest → after ≡ f paths → JoinsPaths same goals new input after → room ≤ more + 1
     → IsJoining same f start goals all left room → IsJoining same f start new all rest more
-IsJoining-more {same = same} laws f start goals new all left rest input paths after room more first stepped joins_after fewer so_far =
+IsJoining-more {same = same} laws f start goals new all left rest input paths after room more
+    first stepped joins_after fewer so_far =
     let joins = subst (JoinsPaths same goals new input) stepped joins_after in
     let distinct = subst (λ l. IsDistinct same (keys_of l)) first so_far.distinct in
     let size : length left ≡ length rest + 1 = ap length first ∙ omega arith in
@@ -106,7 +122,8 @@ IsJoining-more {same = same} laws f start goals new all left rest input paths af
       distinct = distinct_later same input paths rest distinct;
     }
 
-pub IsJoining-end : {I : Type 0} {same : I → I → Bool} (f : PathsToNested → PathsToNested) (old start goals child all rest : NestedPaths I) (room : ℕ)
+pub IsJoining-end : {I : Type 0} {same : I → I → Bool} (f : PathsToNested → PathsToNested)
+    (old start goals child all rest : NestedPaths I) (room : ℕ)
     → rest ≡ [] → IsJoining same f start goals all rest room → (input : I)
     → paths_at same start input ≡ paths_at same old input → all ≡ child
     → paths_at same goals input ≡ joined_paths (paths_at same old input) (option_map f (paths_at same child input))

@@ -29,13 +29,17 @@ joined_paths (Some paths) None = Some paths
 joined_paths (Some paths) (Some more) = Some (union paths more)
 
 -- the new goals have these paths to a goal besides, and to each other goal those that the old ones have
-pub record JoinsPaths {I : Type 0} (same : I → I → Bool) (old new : NestedPaths I) (input : I) (paths : PathsToNested) : Type 0 where
+pub record JoinsPaths {I : Type 0} (same : I → I → Bool) (old new : NestedPaths I) (input : I)
+    (paths : PathsToNested) : Type 0 where
   pub here : paths_at same new input ≡ joined_paths (paths_at same old input) (Some paths)
   pub others : (other : I) → same input other ≡ false → paths_at same new other ≡ paths_at same old other
 
--- the new goals have the paths to each goal that the old ones have, and besides those that `more` has, each as f changes them
-abbrev pub JoinsEach : {I : Type 0} → (I → I → Bool) → (PathsToNested → PathsToNested) → (old more new : NestedPaths I) → Type 0
-JoinsEach {I} same f old more new = (input : I) → paths_at same new input ≡ joined_paths (paths_at same old input) (option_map f (paths_at same more input))
+-- the new goals have the paths to each goal that the old ones have, and besides those that `more` has,
+-- each as f changes them
+abbrev pub JoinsEach : {I : Type 0} → (I → I → Bool) → (PathsToNested → PathsToNested)
+    → (old more new : NestedPaths I) → Type 0
+JoinsEach {I} same f old more new = (input : I)
+    → paths_at same new input ≡ joined_paths (paths_at same old input) (option_map f (paths_at same more input))
 
 -- the path of no step is one of these paths: joined to them, it changes nothing
 abbrev pub HasNoStep : Option PathsToNested → Type 0

@@ -20,7 +20,8 @@ noted_now raises paths = record { paths = paths; raises = raises.count }
 
 -- what the noted paths are now: they are extended by the greatest step of the raises since then, if there were any
 abbrev pub paths_now : Raises → NotedPaths → PathsToNested
-paths_now raises noted = if nat_lt noted.raises raises.count then extended noted.paths (kind_past raises.steps noted.raises) else noted.paths
+paths_now raises noted =
+    if nat_lt noted.raises raises.count then extended noted.paths (kind_past raises.steps noted.raises) else noted.paths
 
 module _ {I : Type 0} where
   -- the goals with what the noted paths to them are now

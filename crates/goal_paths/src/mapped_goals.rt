@@ -152,8 +152,9 @@ fn join_all<I: Eq + Hash + Copy>(
     more: &NotedGoals<I>,
 ) -> Result<(), NoMemory>
     requires { AreNoted I.eq raises.now goals.old.entries }
-    ensures ok { OnOk result (JoinsEach I.eq (after_step step) (paths_noted raises.now goals.old.entries)
-        more.now (paths_noted raises.now goals.new.entries)) }
+    ensures ok { OnOk result (JoinsEach I.eq (after_step step)
+        (paths_noted raises.now goals.old.entries) more.now
+        (paths_noted raises.now goals.new.entries)) }
     ensures noted { AreNoted I.eq raises.now goals.new.entries }
     ensures err { OnErr result (goals.new.entries ≡ goals.old.entries) }
     ensures none { more.now ≡ [] → IsOk result }

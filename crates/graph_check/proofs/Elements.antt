@@ -1,5 +1,6 @@
 -- Elements of lists by their place, and lists around it.
-use Rattle.std.proofs.Common.{◌≡◌, ℕ, Result, Ok, Err, IfOk, ◌+◌, ◌<◌, List, ◌∷◌, [], ◌++◌, length, reverse, take, drop, get_or, sym, ap, ◌∙◌, add-one, take-append-drop}
+use Rattle.std.proofs.Common.{◌≡◌, ℕ, Result, Ok, Err, IfOk, ◌+◌, ◌<◌, List, ◌∷◌, [], ◌++◌, length, reverse, take, drop}
+use Rattle.std.proofs.Common.{get_or, sym, ap, ◌∙◌, add-one, take-append-drop}
 use Rattle.std.proofs.Math.Seq.{take-suc}
 use Rattle.std.proofs.lemmas.List.{reverse-append}
 use Rattle.std.specs.Result.{IsErr}
@@ -9,7 +10,8 @@ pub record IsAt {A : Type 0} (xs : List A) (i : ℕ) (x : A) : Type 0 where
   pub below : i < length xs
   pub is : x ≡ get_or xs i x
 
-pub read_at : {A : Type 0} {read xs : List A} {i : ℕ} {x : A} → read ≡ xs → i < length read → x ≡ get_or read i x → IsAt xs i x
+pub read_at : {A : Type 0} {read xs : List A} {i : ℕ} {x : A} → read ≡ xs
+    → i < length read → x ≡ get_or read i x → IsAt xs i x
 read_at {i = i} {x = x} same below is = record { below = rw (← same) below; is = is ∙ ap (λ l. get_or l i x) same }
 
 module _ {A : Type 0} (xs : List A) (i : ℕ) (x : A) (at : IsAt xs i x) where

@@ -19,12 +19,16 @@ module _ {I : Type 0} (numbers : List ℕ) (number : ℕ) (least most : PathKind
 
   passed : (edges : List (Edge I)) (e : Edge I) → Contains edges e → test e ≡ true → Leading edges
   passed edges e has pass =
-      let both = and_parts (nat_le (rank_of least) (rank_of e.kind) && nat_le (rank_of e.kind) (rank_of most)) (slice_index numbers e.target == number) pass in
+      let both = and_parts (nat_le (rank_of least) (rank_of e.kind) && nat_le (rank_of e.kind) (rank_of most))
+      (slice_index numbers e.target == number) pass in
       let kinds = and_parts (nat_le (rank_of least) (rank_of e.kind)) (nat_le (rank_of e.kind) (rank_of most)) both.0 in
       record {
         edge = e;
         has = has;
-        kind = record { from_least = leb-true (rank_of least) (rank_of e.kind) kinds.0; to_most = leb-true (rank_of e.kind) (rank_of most) kinds.1 };
+        kind = record {
+          from_least = leb-true (rank_of least) (rank_of e.kind) kinds.0;
+          to_most = leb-true (rank_of e.kind) (rank_of most) kinds.1;
+        };
         same = eqb-true (slice_index numbers e.target) number both.1;
       }
 
@@ -37,8 +41,10 @@ module _ {I : Type 0} (numbers : List ℕ) (number : ℕ) (least most : PathKind
   leading_passes edges w =
       let e = w.edge in
       let kinds = and_from (nat_le (rank_of least) (rank_of e.kind)) (nat_le (rank_of e.kind) (rank_of most))
-      (le-leb (rank_of least) (rank_of e.kind) w.kind.from_least) (le-leb (rank_of e.kind) (rank_of most) w.kind.to_most) in
+      (le-leb (rank_of least) (rank_of e.kind) w.kind.from_least)
+      (le-leb (rank_of e.kind) (rank_of most) w.kind.to_most) in
       let pass : test e ≡ true =
-      and_from (nat_le (rank_of least) (rank_of e.kind) && nat_le (rank_of e.kind) (rank_of most)) (slice_index numbers e.target == number) kinds
+      and_from (nat_le (rank_of least) (rank_of e.kind) && nat_le (rank_of e.kind) (rank_of most))
+      (slice_index numbers e.target == number) kinds
       (eq-eqb (slice_index numbers e.target) number w.same) in
       list_any_at test edges w.has.0 e w.has.1 (subst (λ (x : Edge I). test x ≡ true) (sym w.has.2) pass)

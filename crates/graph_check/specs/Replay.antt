@@ -1,6 +1,9 @@
 -- How far a run has come that is replayed, and what its record has of it. The newest reply stands first.
-use Rattle.std.specs.Prelude.{◌≡◌, ℕ, nat_lt, Bool, true, false, not, ◌&&◌, if◌then◌else◌, List, [], ◌∷◌, ◌++◌, map, filter, length, slice_set, Option, None, Some}
-use Rattle.graph_check.specs.Below.{Request, Evaluate, EnterCandidate, FinishCandidate, Ignore, Reply, Answer, Verdict, Yes, No, Neither, Question, Asked, Progress, request_after, progress_after, counted_by, ignored_by, is_ignored, IsFitting, IsInOrder, Verdicts}
+use Rattle.std.specs.Prelude.{◌≡◌, ℕ, nat_lt, Bool, true, false, not, ◌&&◌, if◌then◌else◌, List, [], ◌∷◌, ◌++◌, map}
+use Rattle.std.specs.Prelude.{filter, length, slice_set, Option, None, Some}
+use Rattle.graph_check.specs.Below.{Request, Evaluate, EnterCandidate, FinishCandidate, Ignore, Reply, Answer, Verdict}
+use Rattle.graph_check.specs.Below.{Yes, No, Neither, Question, Asked, Progress, request_after, progress_after}
+use Rattle.graph_check.specs.Below.{counted_by, ignored_by, is_ignored, IsFitting, IsInOrder, Verdicts}
 use Rattle.graph_check.specs.declared.replay.run_record.AskedQuestion.{AskedQuestion}
 
 -- the test that a result is of this sort; for neither there is no test
@@ -81,7 +84,8 @@ pub record IsLegal {I R : Type 0} (script : List (Reply R) → Request I R) (rep
   pub is_in_order : IsInOrder script replies
 
 -- the record is that of these replies, which can be replayed
-pub record Replays {I R : Type 0} (test : R → Bool) (script : List (Reply R) → Request I R) (p : Replayed I R) (replies : List (Reply R)) : Type 0 where
+pub record Replays {I R : Type 0} (test : R → Bool) (script : List (Reply R) → Request I R) (p : Replayed I R)
+    (replies : List (Reply R)) : Type 0 where
   pub legal : IsLegal script replies
   pub request_is : p.request ≡ request_after script replies
   pub agrees : IsReplayOf test p (progress_after script replies)

@@ -31,7 +31,8 @@ abbrev pub steps_over : {I : Type 0} → PathKind → List (GraphNode I) → Lis
 steps_over most nodes = map (λ n. targets_over most n.edges) nodes
 
 -- some edge of a kind from `least` to `most` leads to a node of the same number
-pub record HasInnerEdge {I : Type 0} (numbers : List ℕ) (least most : PathKind) (nodes : List (GraphNode I)) : Type 0 where
+pub record HasInnerEdge {I : Type 0} (numbers : List ℕ) (least most : PathKind)
+    (nodes : List (GraphNode I)) : Type 0 where
   pub place : ℕ
   pub edge : Edge I
   pub has : HasEdge nodes place edge
@@ -41,4 +42,5 @@ pub record HasInnerEdge {I : Type 0} (numbers : List ℕ) (least most : PathKind
 -- the edge is of a kind from `least` to `most`, and leads to a node of this number
 abbrev pub leads_to : {I : Type 0} → List ℕ → ℕ → PathKind → PathKind → Edge I → Bool
 leads_to numbers number least most e =
-    nat_le (rank_of least) (rank_of e.kind) && nat_le (rank_of e.kind) (rank_of most) && slice_index numbers e.target == number
+    nat_le (rank_of least) (rank_of e.kind) && nat_le (rank_of e.kind) (rank_of most)
+    && slice_index numbers e.target == number

@@ -1,5 +1,6 @@
 -- What tokens spell is told by them.
-use Rattle.std.proofs.Common.{◌≡◌, ◌∙◌, ◌&&◌, ℕ, List, ◌∷◌, Some, ap, sym, refl, cond, nat_eq, get_or, length, decimal, codes}
+use Rattle.std.proofs.Common.{◌≡◌, ◌∙◌, ◌&&◌, ℕ, List, ◌∷◌, Some, ap, sym, refl, cond, nat_eq, get_or, length}
+use Rattle.std.proofs.Common.{decimal, codes}
 use Rattle.std.proofs.lemmas.Fmt.{decimal_injective}
 use Rattle.std.specs.Prelude.{⊤}
 use Rattle.json.specs.Token.{Token, end_array, end_object, key}
@@ -9,12 +10,15 @@ use Rattle.search_context.specs.declared.context.Edge.{Edge}
 use Rattle.search_context.specs.declared.context.Reply.TheVariants.{Answer, Begin, Noted}
 use Rattle.graph_data.proofs.Arrays.{array_tail, array_told, Parts, Tells}
 use Rattle.graph_data.specs.Below.{Goal, Maybe, No, Outcome, Overflow, Reply, word_of, Yes}
-use Rattle.graph_data.specs.Data.{array_tokens, claim_tokens, edge_tokens, HaveOwnNames, IsClaim, IsEdge, IsNamed, IsNode, list_tokens, node_tokens, outcome_tokens, PlainClaim, PlainNode, reply_tokens, reply_word}
+use Rattle.graph_data.specs.Data.{array_tokens, claim_tokens, edge_tokens, HaveOwnNames, IsClaim, IsEdge, IsNamed}
+use Rattle.graph_data.specs.Data.{IsNode, list_tokens, node_tokens, outcome_tokens, PlainClaim, PlainNode}
+use Rattle.graph_data.specs.Data.{reply_tokens, reply_word}
 use Rattle.graph_texts.specs.Words.{goal_text, letter_of}
 
 -- words are told apart by their letters
 abbrev kind_in : List ℕ → PathKind
-kind_in text = cond (nat_eq (get_or text 0 0) 105) Inductive (cond (nat_eq (get_or text 0 0) 117) Unknown (cond (nat_eq (get_or text 0 0) 99) Coinductive ForcedAmbiguity))
+kind_in text = cond (nat_eq (get_or text 0 0) 105) Inductive
+    (cond (nat_eq (get_or text 0 0) 117) Unknown (cond (nat_eq (get_or text 0 0) 99) Coinductive ForcedAmbiguity))
 
 kind_in-letter_of : (kind : PathKind) → kind_in (letter_of kind) ≡ kind
 kind_in-letter_of Inductive = refl
@@ -23,7 +27,8 @@ kind_in-letter_of Coinductive = refl
 kind_in-letter_of ForcedAmbiguity = refl
 
 abbrev outcome_in : List ℕ → Outcome
-outcome_in text = cond (nat_eq (get_or text 0 0) 121) Yes (cond (nat_eq (get_or text 0 0) 110) No (cond (nat_eq (get_or text 0 0) 109) Maybe Overflow))
+outcome_in text = cond (nat_eq (get_or text 0 0) 121) Yes
+    (cond (nat_eq (get_or text 0 0) 110) No (cond (nat_eq (get_or text 0 0) 109) Maybe Overflow))
 
 outcome_in-word_of : (outcome : Outcome) → outcome_in (word_of outcome) ≡ outcome
 outcome_in-word_of Yes = refl
@@ -32,7 +37,8 @@ outcome_in-word_of Maybe = refl
 outcome_in-word_of Overflow = refl
 
 abbrev reply_in : List ℕ → Reply Outcome
-reply_in text = cond (nat_eq (get_or text 0 0) 98) Begin (cond (nat_eq (length text) 5 && nat_eq (get_or text 0 0) 110) Noted (Answer (outcome_in text)))
+reply_in text = cond (nat_eq (get_or text 0 0) 98) Begin
+    (cond (nat_eq (length text) 5 && nat_eq (get_or text 0 0) 110) Noted (Answer (outcome_in text)))
 
 reply_in-reply_word : (reply : Reply Outcome) → reply_in (reply_word reply) ≡ reply
 reply_in-reply_word Begin = refl
@@ -53,16 +59,23 @@ reply_told a b h = sym (reply_in-reply_word a) ∙ ap reply_in h ∙ reply_in-re
 
 edge_same : (e f : Edge Goal) → e.kind ≡ f.kind → e.input ≡ f.input → e.target ≡ f.target → e ≡ f
 edge_same e f kind input target =
-    ap (λ k. record { kind = k; input = e.input; target = e.target }) kind ∙ ap (λ g. record { kind = f.kind; input = g; target = e.target }) input ∙ ap (λ t. record { kind = f.kind; input = f.input; target = t }) target
+    ap (λ k. record { kind = k; input = e.input; target = e.target }) kind
+    ∙ ap (λ g. record { kind = f.kind; input = g; target = e.target }) input
+    ∙ ap (λ t. record { kind = f.kind; input = f.input; target = t }) target
 
-node_same : (m n : PlainNode) → m.goal ≡ n.goal → m.replies ≡ n.replies → m.result ≡ n.result → m.edges ≡ n.edges → m ≡ n
+node_same : (m n : PlainNode) → m.goal ≡ n.goal → m.replies ≡ n.replies
+    → m.result ≡ n.result → m.edges ≡ n.edges → m ≡ n
 node_same m n goal replies result edges =
-    ap (λ g. record { goal = g; replies = m.replies; result = m.result; edges = m.edges }) goal ∙ ap (λ rs. record { goal = n.goal; replies = rs; result = m.result; edges = m.edges }) replies
-    ∙ ap (λ r. record { goal = n.goal; replies = n.replies; result = r; edges = m.edges }) result ∙ ap (λ es. record { goal = n.goal; replies = n.replies; result = n.result; edges = es }) edges
+    ap (λ g. record { goal = g; replies = m.replies; result = m.result; edges = m.edges }) goal
+    ∙ ap (λ rs. record { goal = n.goal; replies = rs; result = m.result; edges = m.edges }) replies
+    ∙ ap (λ r. record { goal = n.goal; replies = n.replies; result = r; edges = m.edges }) result
+    ∙ ap (λ es. record { goal = n.goal; replies = n.replies; result = n.result; edges = es }) edges
 
 claim_same : (x y : PlainClaim) → x.goal ≡ y.goal → x.outcome ≡ y.outcome → x.nodes ≡ y.nodes → x ≡ y
 claim_same x y goal outcome nodes =
-    ap (λ g. record { goal = g; outcome = x.outcome; nodes = x.nodes }) goal ∙ ap (λ o. record { goal = y.goal; outcome = o; nodes = x.nodes }) outcome ∙ ap (λ ns. record { goal = y.goal; outcome = y.outcome; nodes = ns }) nodes
+    ap (λ g. record { goal = g; outcome = x.outcome; nodes = x.nodes }) goal
+    ∙ ap (λ o. record { goal = y.goal; outcome = o; nodes = x.nodes }) outcome
+    ∙ ap (λ ns. record { goal = y.goal; outcome = y.outcome; nodes = ns }) nodes
 
 pub reply_parts : Parts reply_tokens
 reply_parts = record { tail = λ x y r s h. cc; is_no_end = λ x r s h. absurd (cc) }
@@ -76,29 +89,35 @@ module _ (names : List (List ℕ)) where
 
   -- what follows the replies of a node
   abbrev pub after_replies : PlainNode → List Token → List Token
-  after_replies node rest = key (codes "result") ∷ outcome_tokens node.result (key (codes "edges") ∷ array_tokens (edge_tokens names) node.edges (end_object ∷ rest))
+  after_replies node rest = key (codes "result") ∷ outcome_tokens node.result
+      (key (codes "edges") ∷ array_tokens (edge_tokens names) node.edges (end_object ∷ rest))
 
   node_replies : (x y : PlainNode) (r s : List Token) → node_tokens names x r ≡ node_tokens names y s →
-      list_tokens reply_tokens x.replies (end_array ∷ after_replies x r) ≡ list_tokens reply_tokens y.replies (end_array ∷ after_replies y s)
+      list_tokens reply_tokens x.replies (end_array ∷ after_replies x r)
+      ≡ list_tokens reply_tokens y.replies (end_array ∷ after_replies y s)
   node_replies x y r s h = cc
 
-  node_rest : (x y : PlainNode) (r s : List Token) → node_tokens names x r ≡ node_tokens names y s → after_replies x r ≡ after_replies y s
+  node_rest : (x y : PlainNode) (r s : List Token) → node_tokens names x r ≡ node_tokens names y s
+      → after_replies x r ≡ after_replies y s
   node_rest x y r s h = array_tail reply_tokens reply_parts x.replies y.replies _ _ (node_replies x y r s h)
 
   node_edges : (x y : PlainNode) (r s : List Token) → after_replies x r ≡ after_replies y s →
-      list_tokens (edge_tokens names) x.edges (end_array ∷ end_object ∷ r) ≡ list_tokens (edge_tokens names) y.edges (end_array ∷ end_object ∷ s)
+      list_tokens (edge_tokens names) x.edges (end_array ∷ end_object ∷ r)
+      ≡ list_tokens (edge_tokens names) y.edges (end_array ∷ end_object ∷ s)
   node_edges x y r s h = cc
 
   node_tail : (x y : PlainNode) (r s : List Token) → node_tokens names x r ≡ node_tokens names y s → r ≡ s
   node_tail x y r s h =
-      let ends = array_tail (edge_tokens names) edge_parts x.edges y.edges _ _ (node_edges x y r s (node_rest x y r s h)) in
+      let ends =
+      array_tail (edge_tokens names) edge_parts x.edges y.edges _ _ (node_edges x y r s (node_rest x y r s h)) in
       cc (ends)
 
   pub node_parts : Parts (node_tokens names)
   node_parts = record { tail = node_tail; is_no_end = λ x r s h. absurd (cc) }
 
   claim_nodes : (x y : PlainClaim) (r s : List Token) → claim_tokens names x r ≡ claim_tokens names y s →
-      list_tokens (node_tokens names) x.nodes (end_array ∷ end_object ∷ r) ≡ list_tokens (node_tokens names) y.nodes (end_array ∷ end_object ∷ s)
+      list_tokens (node_tokens names) x.nodes (end_array ∷ end_object ∷ r)
+      ≡ list_tokens (node_tokens names) y.nodes (end_array ∷ end_object ∷ s)
   claim_nodes x y r s h = cc
 
   pub claim_tail : (x y : PlainClaim) (r s : List Token) → claim_tokens names x r ≡ claim_tokens names y s → r ≡ s
@@ -118,15 +137,18 @@ module _ (names : List (List ℕ)) where
         let kind : letter_of x.kind ≡ letter_of y.kind = cc in
         let input : goal_text names x.input ≡ goal_text names y.input = cc in
         let target : decimal x.target ≡ decimal y.target = cc in
-        edge_same x y (kind_told x.kind y.kind kind) (goal_told x.input y.input p.0 q.0 input) (decimal_injective x.target y.target p.1 q.1 target)
+        edge_same x y (kind_told x.kind y.kind kind) (goal_told x.input y.input p.0 q.0 input)
+        (decimal_injective x.target y.target p.1 q.1 target)
 
     node_tells : Tells (node_tokens names) (IsNode names)
     node_tells x y r s p q h =
         let name : goal_text names x.goal ≡ goal_text names y.goal = cc in
-        let replies = array_told reply_tokens reply_parts (λ _. ⊤) reply_tells x.replies y.replies _ _ (λ k d b. tt) (λ k d b. tt) (node_replies x y r s h) in
+        let replies = array_told reply_tokens reply_parts (λ _. ⊤) reply_tells x.replies y.replies _ _ (λ k d b. tt)
+        (λ k d b. tt) (node_replies x y r s h) in
         let after = node_rest x y r s h in
         let word : word_of x.result ≡ word_of y.result = cc (after) in
-        let edges = array_told (edge_tokens names) edge_parts (IsEdge names) edge_tells x.edges y.edges _ _ p.1 q.1 (node_edges x y r s after) in
+        let edges = array_told (edge_tokens names) edge_parts (IsEdge names) edge_tells x.edges y.edges _ _
+        p.1 q.1 (node_edges x y r s after) in
         node_same x y (goal_told x.goal y.goal p.0 q.0 name) replies (outcome_told x.result y.result word) edges
 
     -- the same tokens spell the same claim
@@ -134,8 +156,10 @@ module _ (names : List (List ℕ)) where
     claim_tells x y r s p q h =
         let name : goal_text names x.goal ≡ goal_text names y.goal = cc in
         let word : word_of x.outcome ≡ word_of y.outcome = cc in
-        let nodes = array_told (node_tokens names) node_parts (IsNode names) node_tells x.nodes y.nodes _ _ p.1 q.1 (claim_nodes x y r s h) in
+        let nodes = array_told (node_tokens names) node_parts (IsNode names) node_tells x.nodes y.nodes _
+        _ p.1 q.1 (claim_nodes x y r s h) in
         claim_same x y (goal_told x.goal y.goal p.0 q.0 name) (outcome_told x.outcome y.outcome word) nodes
 
-    pub claim_told : (x y : PlainClaim) (r s : List Token) → IsClaim names x → IsClaim names y → claim_tokens names x r ≡ claim_tokens names y s → (x ≡ y) × (r ≡ s)
+    pub claim_told : (x y : PlainClaim) (r s : List Token) → IsClaim names x → IsClaim names y
+        → claim_tokens names x r ≡ claim_tokens names y s → (x ≡ y) × (r ≡ s)
     claim_told x y r s p q h = (claim_tells x y r s p q h, claim_tail x y r s h)

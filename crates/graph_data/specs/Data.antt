@@ -19,7 +19,8 @@ pub record PlainNode : Type 0 where
   pub edges : List (Edge Goal)
 
 abbrev pub plain_node : Node Goal Outcome → PlainNode
-plain_node node = record { goal = node.input; replies = node.replies.items; result = node.result; edges = node.edges.items }
+plain_node node =
+    record { goal = node.input; replies = node.replies.items; result = node.result; edges = node.edges.items }
 
 -- a goal, what it came to, and the graph that shows it
 pub record PlainClaim : Type 0 where
@@ -74,8 +75,10 @@ module _ (names : List (List ℕ)) where
 
   abbrev pub node_tokens : PlainNode → List Token → List Token
   node_tokens node rest =
-      begin_object ∷ key (codes "goal") ∷ goal_tokens node.goal (key (codes "replies") ∷ array_tokens reply_tokens node.replies
-      (key (codes "result") ∷ outcome_tokens node.result (key (codes "edges") ∷ array_tokens edge_tokens node.edges (end_object ∷ rest))))
+      begin_object ∷ key (codes "goal")
+      ∷ goal_tokens node.goal (key (codes "replies") ∷ array_tokens reply_tokens node.replies
+      (key (codes "result")
+      ∷ outcome_tokens node.result (key (codes "edges") ∷ array_tokens edge_tokens node.edges (end_object ∷ rest))))
 
   abbrev pub claim_tokens : PlainClaim → List Token → List Token
   claim_tokens claim rest =
@@ -102,7 +105,8 @@ abbrev pub StandsFirst : Token → List Token → Type 0
 StandsFirst token tokens = (rest : List Token) × (tokens ≡ token ∷ rest)
 
 -- The tokens of some value stand first, of which P holds.
-pub record Spells {A : Type 0} (P : A → Type 0) (spelled : A → List Token → List Token) (tokens : List Token) : Type 0 where
+pub record Spells {A : Type 0} (P : A → Type 0) (spelled : A → List Token → List Token)
+    (tokens : List Token) : Type 0 where
   pub value : A
   pub is_right : P value
   pub rest : List Token
@@ -130,4 +134,5 @@ module _ (names : List (List ℕ)) where
 
   -- no two goals have one name
   abbrev pub HaveOwnNames : Type 0
-  HaveOwnNames = (a b : Goal) (name : List ℕ) → slice_get names (number_of a) ≡ Some name → slice_get names (number_of b) ≡ Some name → a ≡ b
+  HaveOwnNames = (a b : Goal) (name : List ℕ) → slice_get names (number_of a) ≡ Some name
+      → slice_get names (number_of b) ≡ Some name → a ≡ b

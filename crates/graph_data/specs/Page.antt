@@ -11,7 +11,8 @@ use Rattle.graph_data.specs.Data.{array_tokens, claim_tokens, IsClaim, list_toke
 
 -- the lines of the rules, and then the answers
 abbrev pub begun_page : List (List ℕ) → List Token → List Token
-begun_page lines rest = begin_object ∷ key (codes "rules") ∷ array_tokens string_tokens lines (key (codes "answers") ∷ begin_array ∷ rest)
+begun_page lines rest =
+    begin_object ∷ key (codes "rules") ∷ array_tokens string_tokens lines (key (codes "answers") ∷ begin_array ∷ rest)
 
 -- which are claims
 abbrev pub page_tokens : List (List ℕ) → List (List ℕ) → List PlainClaim → List Token → List Token
@@ -52,7 +53,8 @@ pub record IsBegun (rules : Rules) (writer : Written) (claims : List PlainClaim)
   pub lines : List (List ℕ)
   pub reads : Reads (text_of lines) rules
   pub alone : writer.before ≡ []
-  pub spelled : (rest : List Token) → writer.tokens ++ rest ≡ begun_page lines (list_tokens (claim_tokens (names_of rules)) claims rest)
+  pub spelled : (rest : List Token)
+      → writer.tokens ++ rest ≡ begun_page lines (list_tokens (claim_tokens (names_of rules)) claims rest)
 
 -- The text of a page was written, and a newline. The page has the rules and these claims.
 pub record IsWrittenPage (rules : Rules) (claims : List PlainClaim) (old new : Option (List ℕ)) : Type 0 where

@@ -28,4 +28,5 @@ pub record IsSameCandidate (one other : Candidate) : Type 0 where
 pub record AreSameRules (rules others : Rules) : Type 0 where
   pub names : names_of others ≡ names_of rules
   pub questions : questions_of others ≡ questions_of rules
-  pub candidates : (goal : Goal) (name : List ℕ) → name_of rules goal ≡ Some name → AllZip IsSameCandidate (candidates_of rules goal) (candidates_of others goal)
+  pub candidates : (goal : Goal) (name : List ℕ) → name_of rules goal ≡ Some name
+      → AllZip IsSameCandidate (candidates_of rules goal) (candidates_of others goal)

@@ -1,5 +1,7 @@
 -- What is marked is moved to the front in its order.
-use Rattle.std.proofs.Common.{◌≡◌, ◌≢◌, ℕ, zero, suc, ◌+◌, ◌-◌, ◌<◌, ◌≤◌, Bool, true, false, List, [], ◌∷◌, ◌++◌, None, Some, length, get_or, drop, take, slice_get, slice_set, refl, sym, ◌∙◌, ap, inl, inr, arith, add-one, length-append, length-drop}
+use Rattle.std.proofs.Common.{◌≡◌, ◌≢◌, ℕ, zero, suc, ◌+◌, ◌-◌, ◌<◌, ◌≤◌, Bool, true, false, List, [], ◌∷◌, ◌++◌, None}
+use Rattle.std.proofs.Common.{Some, length, get_or, drop, take, slice_get, slice_set, refl, sym, ◌∙◌, ap, inl, inr}
+use Rattle.std.proofs.Common.{arith, add-one, length-append, length-drop}
 use Rattle.std.proofs.Math.ListN.{length-set}
 use Rattle.std.proofs.lemmas.Bool.{cases_eq, cases_lt}
 use Rattle.std.proofs.lemmas.List.{length-take-le}
@@ -11,7 +13,8 @@ use Rattle.graph_nodes.proofs.HeldNodes.{same_by_places}
 use Rattle.graph_nodes.proofs.MarkedNodes.{take_all}
 
 module _ {A : Type 0} where
-  kept_yes : (marked : List Bool) (xs : List A) (i : ℕ) (x : A) → IsMarked marked i → slice_get xs i ≡ Some x → kept (take (suc i) marked) xs ≡ kept (take i marked) xs ++ x ∷ []
+  kept_yes : (marked : List Bool) (xs : List A) (i : ℕ) (x : A) → IsMarked marked i → slice_get xs i ≡ Some x
+      → kept (take (suc i) marked) xs ≡ kept (take i marked) xs ++ x ∷ []
   kept_yes [] xs i x m is = absurd cc
   kept_yes (b ∷ marked) [] i x m is = absurd cc
   kept_yes (true ∷ marked) (y ∷ xs) zero x m is = let e : y ≡ x = cc in ap (λ z. z ∷ []) e
@@ -19,7 +22,8 @@ module _ {A : Type 0} where
   kept_yes (true ∷ marked) (y ∷ xs) (suc i) x m is = ap (λ l. y ∷ l) (kept_yes marked xs i x m is)
   kept_yes (false ∷ marked) (y ∷ xs) (suc i) x m is = kept_yes marked xs i x m is
 
-  kept_no : (marked : List Bool) (xs : List A) (i : ℕ) → slice_get marked i ≡ Some false → kept (take (suc i) marked) xs ≡ kept (take i marked) xs
+  kept_no : (marked : List Bool) (xs : List A) (i : ℕ) → slice_get marked i ≡ Some false
+      → kept (take (suc i) marked) xs ≡ kept (take i marked) xs
   kept_no [] xs i m = absurd cc
   kept_no (true ∷ marked) [] zero m = refl
   kept_no (true ∷ marked) (y ∷ xs) zero m = absurd cc
@@ -38,7 +42,13 @@ module _ {A : Type 0} where
     pub behind : count ≤ place
 
   pub none_moved : (was : List A) (marked : List Bool) → IsMoved was was marked zero zero
-  none_moved was marked = record { each = refl; moved = refl; front = λ i lt. absurd (omega arith); rest = λ i le. refl; behind = omega arith }
+  none_moved was marked = record {
+    each = refl;
+    moved = refl;
+    front = λ i lt. absurd (omega arith);
+    rest = λ i le. refl;
+    behind = omega arith;
+  }
 
   module _ (was is : List A) (marked : List Bool) (count place : ℕ) (m : IsMoved was is marked count place) where
     pub not_moved : slice_get marked place ≡ Some false → IsMoved was is marked count (place + 1)
@@ -50,8 +60,10 @@ module _ {A : Type 0} where
       behind = omega (arith, m.behind);
     }
 
-    module _ (yes : IsMarked marked place) (lt : place < length is) (swapped : List A) (swap : SwappedAt is swapped count place) where
-      one_more : (x : A) → slice_get was place ≡ Some x → kept (take (place + 1) marked) was ≡ kept (take place marked) was ++ x ∷ []
+    module _ (yes : IsMarked marked place) (lt : place < length is) (swapped : List A)
+        (swap : SwappedAt is swapped count place) where
+      one_more : (x : A) → slice_get was place ≡ Some x
+          → kept (take (place + 1) marked) was ≡ kept (take place marked) was ++ x ∷ []
       one_more x at = rw add-one (kept_yes marked was place x yes at)
 
       module _ (x : A) (at : slice_get is place ≡ Some x) where
@@ -64,14 +76,17 @@ module _ {A : Type 0} where
         others : (i : ℕ) → i ≢ count → i ≢ place → slice_get swapped i ≡ slice_get is i
         others i a b =
             ap (λ l. slice_get l i) written
-            ∙ (get_set_other (slice_set is count (get_or is place x)) place (get_or is count x) i b ∙ get_set_other is count (get_or is place x) i a)
+            ∙ (get_set_other (slice_set is count (get_or is place x)) place (get_or is count x) i b
+            ∙ get_set_other is count (get_or is place x) i a)
 
         moved_here : slice_get swapped count ≡ Some x
         moved_here = elim (cases_eq count place) [
           | inl e ↦
               ap (slice_get swapped) e
               ∙ (ap (λ l. slice_get l place) written
-              ∙ (get_set_same (slice_set is count (get_or is place x)) place _ (get_or is count x) (slice_get-get_or (slice_set is count (get_or is place x)) place x (omega (arith, lt, length-set is count (get_or is place x))))
+              ∙ (get_set_same (slice_set is count (get_or is place x)) place _ (get_or is count x)
+              (slice_get-get_or (slice_set is count (get_or is place x)) place x
+              (omega (arith, lt, length-set is count (get_or is place x))))
               ∙ (ap (λ n. Some (get_or is n x)) e ∙ (sym (slice_get-get_or is place x lt) ∙ at))))
           | inr ne ↦
               ap (λ l. slice_get l count) written
@@ -84,28 +99,35 @@ module _ {A : Type 0} where
         one_moved =
             let kept_before = kept (take place marked) was in
             record {
-              each = ap length written ∙ (length-set (slice_set is count (get_or is place x)) place (get_or is count x) ∙ (length-set is count (get_or is place x) ∙ m.each));
+              each = ap length written ∙ (length-set (slice_set is count (get_or is place x)) place (get_or is count x)
+                  ∙ (length-set is count (get_or is place x) ∙ m.each));
               moved = rw (one_more x there) (omega (arith, m.moved, length-append kept_before (x ∷ [])));
               front = λ i less. elim (cases_lt i count) [
                 | inl before ↦
                     let some = slice_get-get_or kept_before i x (omega (arith, m.moved)) in
                     others i (λ e. absurd (omega (arith, e))) (λ e. absurd (omega (arith, e, m.behind)))
-                    ∙ (m.front i before ∙ (some ∙ sym (ap (λ l. slice_get l i) (one_more x there) ∙ get_left kept_before (x ∷ []) i _ some)))
+                    ∙ (m.front i before ∙ (some
+                    ∙ sym (ap (λ l. slice_get l i) (one_more x there) ∙ get_left kept_before (x ∷ []) i _ some)))
                 | inr ge ↦
                     let e : i ≡ count = omega arith in
                     ap (slice_get swapped) e
-                    ∙ (moved_here ∙ sym (ap (λ l. slice_get l i) (one_more x there) ∙ (ap (slice_get (kept_before ++ x ∷ [])) (e ∙ m.moved) ∙ get_end kept_before x)))
+                    ∙ (moved_here ∙ sym (ap (λ l. slice_get l i) (one_more x there)
+                    ∙ (ap (slice_get (kept_before ++ x ∷ [])) (e ∙ m.moved) ∙ get_end kept_before x)))
               ];
-              rest = λ i le. others i (λ e. absurd (omega (arith, e, m.behind))) (λ e. absurd (omega (arith, e))) ∙ m.rest i (omega arith);
+              rest = λ i le. others i (λ e. absurd (omega (arith, e, m.behind))) (λ e. absurd (omega (arith, e)))
+                  ∙ m.rest i (omega arith);
               behind = omega (arith, m.behind);
             }
 
-    pub all_moved : length marked ≤ place → (count ≡ length (kept marked was)) × ((i : ℕ) → i < count → slice_get is i ≡ slice_get (kept marked was) i)
+    pub all_moved : length marked ≤ place
+        → (count ≡ length (kept marked was)) × ((i : ℕ) → i < count → slice_get is i ≡ slice_get (kept marked was) i)
     all_moved le =
         let all = take_all marked place le in
         (m.moved ∙ ap (λ l. length (kept l was)) all, λ i lt. m.front i lt ∙ ap (λ l. slice_get (kept l was) i) all)
 
-    pub next_moved : length was ≡ length marked → place < length marked → (swapped : List A) → SwappedAt is swapped count place → get_or marked place false ≡ true → IsMoved was swapped marked (count + 1) (place + 1)
+    pub next_moved : length was ≡ length marked → place < length marked → (swapped : List A)
+        → SwappedAt is swapped count place → get_or marked place false ≡ true
+        → IsMoved was swapped marked (count + 1) (place + 1)
     next_moved long lt swapped swap is_true =
         let within : place < length is = omega (arith, m.each) in
         let x = some_there is place within in
@@ -138,7 +160,8 @@ module _ {A : Type 0} where
 
   in_second : (xs ys : List A) (n i : ℕ) → n ≡ length xs → slice_get (xs ++ ys) (n + i) ≡ slice_get ys i
   in_second [] ys n i is = ap (slice_get ys) (omega arith)
-  in_second (x ∷ xs) ys n i is = ap (slice_get (x ∷ xs ++ ys)) {y = suc (length xs + i)} (omega arith) ∙ in_second xs ys (length xs) i refl
+  in_second (x ∷ xs) ys n i is =
+      ap (slice_get (x ∷ xs ++ ys)) {y = suc (length xs + i)} (omega arith) ∙ in_second xs ys (length xs) i refl
 
   -- the end of a list, as a range of it
   pub whole_end : (xs : List A) (place : ℕ) → take (length xs - place) (drop place xs) ≡ drop place xs
@@ -146,10 +169,12 @@ module _ {A : Type 0} where
 
   -- what is left when the range from a place on was drawn, and then the list was cut
   pub cut_is : (old now : List A) (place count len : ℕ) (drawn past behind left : List A)
-      → now ≡ old → place ≤ length old → len ≡ length old → count ≡ length left → count ≤ length drawn → place + count ≤ length old
+      → now ≡ old → place ≤ length old → len ≡ length old → count ≡ length left
+      → count ≤ length drawn → place + count ≤ length old
       → ((i : ℕ) → i < count → slice_get drawn i ≡ slice_get left i)
       → take (place + count) (take len ((take place now ++ (drawn ++ past)) ++ behind)) ≡ take place old ++ left
-  cut_is old now place count len drawn past behind left same within len_is count_is enough fits each = same_by_places _ _ at
+  cut_is old now place count len drawn past behind left same within len_is count_is enough fits each =
+      same_by_places _ _ at
     where
       long : place ≡ length (take place now)
       long = sym (length-take-le place now (omega (arith, ap length same)))
@@ -157,12 +182,14 @@ module _ {A : Type 0} where
       whole : List A
       whole = take place now ++ (drawn ++ past)
 
-      at : (i : ℕ) → slice_get (take (place + count) (take len ((take place now ++ (drawn ++ past)) ++ behind))) i ≡ slice_get (take place old ++ left) i
+      at : (i : ℕ) → slice_get (take (place + count) (take len ((take place now ++ (drawn ++ past)) ++ behind))) i
+          ≡ slice_get (take place old ++ left) i
       at i = elim (cases_lt i place) [
         | inl lt ↦
             get_take (place + count) (take len ((take place now ++ (drawn ++ past)) ++ behind)) i (omega arith)
             ∙ (get_take len ((take place now ++ (drawn ++ past)) ++ behind) i (omega arith)
-            ∙ (in_first (take place now ++ (drawn ++ past)) behind i (omega (arith, long, length-append (take place now) (drawn ++ past)))
+            ∙ (in_first (take place now ++ (drawn ++ past)) behind i
+            (omega (arith, long, length-append (take place now) (drawn ++ past)))
             ∙ (in_first (take place now) (drawn ++ past) i (omega (arith, long))
             ∙ (ap (λ l. slice_get (take place l) i) same
             ∙ sym (in_first (take place old) left i (omega (arith, long, ap (λ l. length (take place l)) same)))))))
@@ -171,7 +198,8 @@ module _ {A : Type 0} where
               let j : i ≡ place + (i - place) = omega arith in
               get_take (place + count) (take len ((take place now ++ (drawn ++ past)) ++ behind)) i less
               ∙ (get_take len ((take place now ++ (drawn ++ past)) ++ behind) i (omega arith)
-              ∙ (in_first (take place now ++ (drawn ++ past)) behind i (omega (arith, long, length-append (take place now) (drawn ++ past), length-append drawn past))
+              ∙ (in_first (take place now ++ (drawn ++ past)) behind i
+              (omega (arith, long, length-append (take place now) (drawn ++ past), length-append drawn past))
               ∙ (ap (slice_get (take place now ++ (drawn ++ past))) j
               ∙ (in_second (take place now) (drawn ++ past) place (i - place) long
               ∙ (in_first drawn past (i - place) (omega arith)
@@ -180,6 +208,7 @@ module _ {A : Type 0} where
               ∙ ap (slice_get (take place old ++ left)) (sym j))))))))
           | inr more ↦
               none_taken (place + count) (take len ((take place now ++ (drawn ++ past)) ++ behind)) i more
-              ∙ sym (slice_get_past (take place old ++ left) i (omega (arith, long, ap (λ l. length (take place l)) same, length-append (take place old) left)))
+              ∙ sym (slice_get_past (take place old ++ left) i
+              (omega (arith, long, ap (λ l. length (take place l)) same, length-append (take place old) left)))
         ]
       ]

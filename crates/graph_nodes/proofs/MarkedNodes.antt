@@ -1,5 +1,7 @@
 -- Marking what is reached: one number after the other, and then what the marked nodes lead to.
-use Rattle.std.proofs.Common.{◌≡◌, ◌⊎◌, ℕ, zero, suc, ◌+◌, ◌<◌, ◌≤◌, Bool, true, false, List, [], ◌∷◌, ◌++◌, map, None, Option, Some, Result, Ok, Err, OnOk, drop, length, get_or, replicate, take, slice_get, slice_set, Contains, refl, sym, ◌∙◌, ap, subst, inl, inr, arith, length-append}
+use Rattle.std.proofs.Common.{◌≡◌, ◌⊎◌, ℕ, zero, suc, ◌+◌, ◌<◌, ◌≤◌, Bool, true, false, List, [], ◌∷◌, ◌++◌, map, None}
+use Rattle.std.proofs.Common.{Option, Some, Result, Ok, Err, OnOk, drop, length, get_or, replicate, take, slice_get}
+use Rattle.std.proofs.Common.{slice_set, Contains, refl, sym, ◌∙◌, ap, subst, inl, inr, arith, length-append}
 use Rattle.std.specs.List.{refill}
 use Rattle.std.proofs.Math.ListN.{length-set}
 use Rattle.std.proofs.Math.Seq.{take-append_seam}
@@ -9,7 +11,8 @@ use Rattle.std.proofs.lemmas.List.Elements.{Contains-append_cases, Contains-appe
 use Rattle.std.proofs.lemmas.Option.{get_or_from_slice_get, slice_get-get_or, slice_get_read, slice_get_within}
 use Rattle.open_graphs.proofs.Lists.{get_set_other, get_set_same, mapped_some}
 use Rattle.open_graphs.proofs.Members.{Contains-mapped}
-use Rattle.graph_nodes.specs.Words.{Held, AreMarked, AreNone, AreWaiting, HasNumber, IsClosed, IsFound, IsMarked, IsRising, Marks, MarksFrom, slot_at, targets_of, unmarked, with_root, root, next}
+use Rattle.graph_nodes.specs.Words.{Held, AreMarked, AreNone, AreWaiting, HasNumber, IsClosed, IsFound, IsMarked}
+use Rattle.graph_nodes.specs.Words.{IsRising, Marks, MarksFrom, slot_at, targets_of, unmarked, with_root, root, next}
 use Rattle.search_context.specs.declared.context.NodeId.{NodeId}
 use Rattle.graph_nodes.proofs.FoundNodes.{only_number}
 use Rattle.graph_nodes.proofs.HeldNodes.{slot_of}
@@ -18,7 +21,8 @@ no_contains : {A : Type 0} (x : A) → Contains [] x → ⊥
 no_contains x (k, l, e) = absurd (omega arith)
 
 -- marking one place leaves one place less
-one_less : (marked : List Bool) (place : ℕ) → slice_get marked place ≡ Some false → unmarked (slice_set marked place true) + 1 ≡ unmarked marked
+one_less : (marked : List Bool) (place : ℕ) → slice_get marked place ≡ Some false
+    → unmarked (slice_set marked place true) + 1 ≡ unmarked marked
 one_less [] place none = absurd cc
 one_less (true ∷ marked) zero none = absurd cc
 one_less (false ∷ marked) zero none = omega arith
@@ -31,13 +35,15 @@ nothing_left zero gives = refl
 nothing_left (suc n) gives = let never : false ≡ true = gives (omega arith) in absurd cc
 
 -- what is written to the list that was lent stands in the list
-pub marked_there : (marked lent : List Bool) (place : ℕ) → lent ≡ marked → refill (length marked) marked (slice_set lent place true) ≡ slice_set marked place true
+pub marked_there : (marked lent : List Bool) (place : ℕ) → lent ≡ marked
+    → refill (length marked) marked (slice_set lent place true) ≡ slice_set marked place true
 marked_there marked lent place is =
     let set = slice_set lent place true in
     ap (λ n. take n (set ++ drop (length set) marked)) (sym (length-set lent place true ∙ ap length is))
     ∙ (take-append_seam set (drop (length set) marked) ∙ ap (λ l. slice_set l place true) is)
 
-pub numbered : {I R : Type 0} (held : List (Held I R)) (place n : ℕ) → HasNumber held place n → (h : Held I R) × (slice_get held place ≡ Some h) × (h.number ≡ n)
+pub numbered : {I R : Type 0} (held : List (Held I R)) (place n : ℕ) → HasNumber held place n
+    → (h : Held I R) × (slice_get held place ≡ Some h) × (h.number ≡ n)
 numbered held place n has = mapped_some (λ h. h.number) (slice_get held place) n has
 
 module _ {I R : Type 0} (held : List (Held I R)) (rising : IsRising held) where
@@ -46,10 +52,12 @@ module _ {I R : Type 0} (held : List (Held I R)) (rising : IsRising held) where
       let h = numbered held p n at in
       let k = numbered held q n there in
       elim (cases_lt p q) [
-        | inl lt ↦ let less : h.0.number < k.0.number = rising.rises p q h.0 k.0 lt h.1 k.1 in absurd (omega (arith, h.2, k.2))
+        | inl lt ↦
+            let less : h.0.number < k.0.number = rising.rises p q h.0 k.0 lt h.1 k.1 in absurd (omega (arith, h.2, k.2))
         | inr ge ↦ elim (cases_eq p q) [
           | inl e ↦ e
-          | inr ne ↦ let less : k.0.number < h.0.number = rising.rises q p k.0 h.0 (omega arith) k.1 h.1 in absurd (omega (arith, h.2, k.2))
+          | inr ne ↦ let less : k.0.number < h.0.number = rising.rises q p k.0 h.0 (omega arith) k.1 h.1 in
+              absurd (omega (arith, h.2, k.2))
         ]
       ]
 
@@ -61,7 +69,8 @@ module _ {I R : Type 0} (held : List (Held I R)) (rising : IsRising held) where
       stays = λ p m. m;
       here = λ p n has at.
           let h = numbered held p n at in
-          let found : Some h.0.slot ≡ None = sym (slot_of held rising p h.0 h.1) ∙ (ap (slot_at held) (h.2 ∙ sym (only_number number n has)) ∙ none) in
+          let found : Some h.0.slot ≡ None =
+          sym (slot_of held rising p h.0 h.1) ∙ (ap (slot_at held) (h.2 ∙ sym (only_number number n has)) ∙ none) in
           absurd cc;
       only = λ p m. inl m;
       waits = λ p m. inl m;
@@ -87,7 +96,8 @@ module _ {I R : Type 0} (held : List (Held I R)) (rising : IsRising held) where
         fewer = omega arith;
       }
 
-      still_marked : slice_get marked place ≡ Some false → (p : ℕ) → IsMarked marked p → IsMarked (slice_set marked place true) p
+      still_marked : slice_get marked place ≡ Some false → (p : ℕ) → IsMarked marked p
+          → IsMarked (slice_set marked place true) p
       still_marked none p m = elim (cases_eq p place) [
         | inl e ↦ subst (IsMarked (slice_set marked place true)) (sym e) (get_set_same marked place false true none)
         | inr ne ↦ get_set_other marked place true p ne ∙ m
@@ -99,7 +109,8 @@ module _ {I R : Type 0} (held : List (Held I R)) (rising : IsRising held) where
         Marks-new = record {
           each = length-set marked place true;
           stays = still_marked none;
-          here = λ p n is at. subst (IsMarked (slice_set marked place true)) (sym (same_place p n is at)) (get_set_same marked place false true none);
+          here = λ p n is at. subst (IsMarked (slice_set marked place true)) (sym (same_place p n is at))
+              (get_set_same marked place false true none);
           only = λ p m. elim (cases_eq p place) [
             | inl e ↦ inr (number, (zero, omega arith, refl), subst (λ q. HasNumber held q number) (sym e) has)
             | inr ne ↦ inl (sym (get_set_other marked place true p ne) ∙ m)
@@ -111,13 +122,18 @@ module _ {I R : Type 0} (held : List (Held I R)) (rising : IsRising held) where
           still = λ p is. Contains-append_left waiting (place ∷ []) p is;
           only_waits = λ p is. elim (Contains-append_cases waiting (place ∷ []) p is) [
             | inl old ↦ inl old
-            | inr new ↦ inr (number, (zero, omega arith, refl), subst (λ q. HasNumber held q number) (only_number place p new) has)
+            | inr new ↦ inr (
+              number,
+              (zero, omega arith, refl),
+              subst (λ q. HasNumber held q number) (only_number place p new) has,
+            )
           ];
           fewer = omega (arith, one_less marked place none, length-append waiting (place ∷ []));
         }
 
 -- what was not marked waits
-pub AreWaiting-new : (marked : List Bool) (waiting : List ℕ) (place : ℕ) → slice_get marked place ≡ Some false → AreWaiting marked waiting → AreWaiting (slice_set marked place true) (waiting ++ place ∷ [])
+pub AreWaiting-new : (marked : List Bool) (waiting : List ℕ) (place : ℕ) → slice_get marked place ≡ Some false
+    → AreWaiting marked waiting → AreWaiting (slice_set marked place true) (waiting ++ place ∷ [])
 AreWaiting-new marked waiting place none w = record {
   marked_there = λ p is. elim (cases_eq p place) [
     | inl e ↦ subst (IsMarked (slice_set marked place true)) (sym e) (get_set_same marked place false true none)
@@ -129,7 +145,8 @@ AreWaiting-new marked waiting place none w = record {
 }
 
 -- a mark that is read
-pub read_mark : (marked : List Bool) (place : ℕ) (m b : Bool) → place < length marked → m ≡ get_or marked place m → m ≡ b → slice_get marked place ≡ Some b
+pub read_mark : (marked : List Bool) (place : ℕ) (m b : Bool) → place < length marked → m ≡ get_or marked place m
+    → m ≡ b → slice_get marked place ≡ Some b
 read_mark marked place m b lt read is = slice_get_read marked (length marked) place m refl lt read ∙ ap Some is
 
 pub take_all : {A : Type 0} (xs : List A) (i : ℕ) → length xs ≤ i → take i xs ≡ xs
@@ -152,7 +169,8 @@ module _ {I R : Type 0} (held : List (Held I R)) where
     fewer = omega arith;
   }
 
-  pub Marks-then : (first second : List ℕ) (m m' m'' : List Bool) (q q' q'' : List ℕ) → Marks held first m m' q q' → Marks held second m' m'' q' q'' → Marks held (first ++ second) m m'' q q''
+  pub Marks-then : (first second : List ℕ) (m m' m'' : List Bool) (q q' q'' : List ℕ) → Marks held first m m' q q'
+      → Marks held second m' m'' q' q'' → Marks held (first ++ second) m m'' q q''
   Marks-then first second m m' m'' q q' q'' a b = record {
     each = b.each ∙ a.each;
     stays = λ p is. b.stays p (a.stays p is);
@@ -186,13 +204,17 @@ module _ {I R : Type 0} (held : List (Held I R)) where
   }
 
   -- one more of a list
-  pub Marks-more : {A : Type 0} (f : A → ℕ) (xs : List A) (i : ℕ) (x d : A) → i < length xs → x ≡ get_or xs i d → (m m' m'' : List Bool) (q q' q'' : List ℕ) → Marks held (map f (take i xs)) m m' q q' → Marks held (f x ∷ []) m' m'' q' q'' → Marks held (map f (take (i + 1) xs)) m m'' q q''
+  pub Marks-more : {A : Type 0} (f : A → ℕ) (xs : List A) (i : ℕ) (x d : A) → i < length xs → x ≡ get_or xs i d
+      → (m m' m'' : List Bool) (q q' q'' : List ℕ) → Marks held (map f (take i xs)) m m' q q'
+      → Marks held (f x ∷ []) m' m'' q' q'' → Marks held (map f (take (i + 1) xs)) m m'' q q''
   Marks-more f xs i x d lt is m m' m'' q q' q'' a b =
       subst (λ l. Marks held l m m'' q q'')
-      (sym (map-append f (take i xs) (x ∷ [])) ∙ ap (map f) (ap (λ y. take i xs ++ y ∷ []) is ∙ sym (take_more xs i d lt)))
+      (sym (map-append f (take i xs) (x ∷ []))
+      ∙ ap (map f) (ap (λ y. take i xs ++ y ∷ []) is ∙ sym (take_more xs i d lt)))
       (Marks-then (map f (take i xs)) (f x ∷ []) m m' m'' q q' q'' a b)
 
-  pub Marks-whole : {A : Type 0} (f : A → ℕ) (xs : List A) (i : ℕ) → length xs ≤ i → (m m' : List Bool) (q q' : List ℕ) → Marks held (map f (take i xs)) m m' q q' → Marks held (map f xs) m m' q q'
+  pub Marks-whole : {A : Type 0} (f : A → ℕ) (xs : List A) (i : ℕ) → length xs ≤ i → (m m' : List Bool) (q q' : List ℕ)
+      → Marks held (map f (take i xs)) m m' q q' → Marks held (map f xs) m m' q q'
   Marks-whole f xs i le m m' q q' marks = subst (λ l. Marks held (map f l) m m' q q') (take_all xs i le) marks
 
 pub none_of : (count : ℕ) → AreNone count (replicate count false) []
@@ -217,26 +239,35 @@ none_of count = record {
 pub AreWaiting-none : (marked : List Bool) (waiting : List ℕ) → length waiting ≡ 0 → AreWaiting marked waiting
 AreWaiting-none marked waiting none = record { marked_there = λ p is. absurd (omega (arith, is.1, none)) }
 
--- what is known while what is reached from a node is followed: what each marked node leads to is marked, unless it still waits
-pub record IsFollowed {I R : Type 0} (held : List (Held I R)) (number : ℕ) (old marked : List Bool) (waiting : List ℕ) : Type 0 where
+-- what is known while what is reached from a node is followed: what each marked node leads to is marked,
+-- unless it still waits
+pub record IsFollowed {I R : Type 0} (held : List (Held I R)) (number : ℕ)
+    (old marked : List Bool) (waiting : List ℕ) : Type 0 where
   pub each : length marked ≡ length held
   pub waiting_are : AreWaiting marked waiting
   pub stays : (place : ℕ) → IsMarked old place → IsMarked marked place
   pub here : (place : ℕ) → HasNumber held place number → IsMarked marked place
-  pub behind : (place : ℕ) (h : Held I R) (other n : ℕ) → IsMarked marked place → slice_get held place ≡ Some h → Contains (targets_of h.slot) n → HasNumber held other n → Contains waiting place ⊎ IsMarked marked other
-  pub found : (place : ℕ) (h : Held I R) → IsMarked marked place → slice_get held place ≡ Some h → IsMarked old place ⊎ IsFound held (number ∷ []) h.number
-  pub found_waiting : (place : ℕ) (h : Held I R) → Contains waiting place → slice_get held place ≡ Some h → IsFound held (number ∷ []) h.number
+  pub behind : (place : ℕ) (h : Held I R) (other n : ℕ) → IsMarked marked place → slice_get held place ≡ Some h
+      → Contains (targets_of h.slot) n → HasNumber held other n → Contains waiting place ⊎ IsMarked marked other
+  pub found : (place : ℕ) (h : Held I R) → IsMarked marked place → slice_get held place ≡ Some h
+      → IsMarked old place ⊎ IsFound held (number ∷ []) h.number
+  pub found_waiting : (place : ℕ) (h : Held I R) → Contains waiting place → slice_get held place ≡ Some h
+      → IsFound held (number ∷ []) h.number
 
 module _ {I R : Type 0} (held : List (Held I R)) where
   number_there : (place n : ℕ) (h : Held I R) → HasNumber held place n → slice_get held place ≡ Some h → n ≡ h.number
-  number_there place n h has is = let w = numbered held place n has in let both : Some w.0 ≡ Some h = sym w.1 ∙ is in let one : w.0 ≡ h = cc in sym w.2 ∙ ap (λ x. x.number) one
+  number_there place n h has is = let w = numbered held place n has in let both : Some w.0 ≡ Some h = sym w.1 ∙ is in
+      let one : w.0 ≡ h = cc in sym w.2 ∙ ap (λ x. x.number) one
 
   module _ (number : ℕ) (old : List Bool) where
-    from_number : (p : ℕ) (h : Held I R) → slice_get held p ≡ Some h → (n : ℕ) × Contains (number ∷ []) n × HasNumber held p n → IsFound held (number ∷ []) h.number
+    from_number : (p : ℕ) (h : Held I R) → slice_get held p ≡ Some h
+        → (n : ℕ) × Contains (number ∷ []) n × HasNumber held p n → IsFound held (number ∷ []) h.number
     from_number p h is w = subst (IsFound held (number ∷ [])) (number_there p w.0 h w.2 is) (root w.0 w.1)
 
     -- the node is marked
-    pub follow_first : (empty : List ℕ) (marked : List Bool) (waiting : List ℕ) → length old ≡ length held → length empty ≡ 0 → IsClosed held old → AreWaiting marked waiting → Marks held (number ∷ []) old marked empty waiting → IsFollowed held number old marked waiting
+    pub follow_first : (empty : List ℕ) (marked : List Bool) (waiting : List ℕ) → length old ≡ length held
+        → length empty ≡ 0 → IsClosed held old → AreWaiting marked waiting
+        → Marks held (number ∷ []) old marked empty waiting → IsFollowed held number old marked waiting
     follow_first empty marked waiting each none closed waiting_are marks = record {
       each = marks.each ∙ each;
       waiting_are = waiting_are;
@@ -267,20 +298,27 @@ module _ {I R : Type 0} (held : List (Held I R)) where
 
         -- it is the place of a node
         pub place_within : place < length held
-        place_within = omega (arith, slice_get_within marked place true (f.waiting_are.marked_there place last_waits), f.each)
+        place_within =
+            omega (arith, slice_get_within marked place true (f.waiting_are.marked_there place last_waits), f.each)
 
         -- the others wait
         pub left_waiting : AreWaiting marked left
-        left_waiting = record { marked_there = λ p is. f.waiting_are.marked_there p (waits_left p (Contains-append_left left (place ∷ []) p is)) }
+        left_waiting = record {
+          marked_there =
+              λ p is. f.waiting_are.marked_there p (waits_left p (Contains-append_left left (place ∷ []) p is));
+        }
 
-        module _ (more : List Bool) (longer : List ℕ) (h : Held I R) (marks : Marks held (targets_of h.slot) marked more left longer) where
+        module _ (more : List Bool) (longer : List ℕ) (h : Held I R)
+            (marks : Marks held (targets_of h.slot) marked more left longer) where
           -- less is left to do
           pub follow_less : unmarked more + length longer < unmarked marked + length waiting
           follow_less = omega (arith, marks.fewer, ap length last, length-append left (place ∷ []))
 
           module _ (is : slice_get held place ≡ Some h) where
-            from_target : (p : ℕ) (k : Held I R) → slice_get held p ≡ Some k → (n : ℕ) × Contains (targets_of h.slot) n × HasNumber held p n → IsFound held (number ∷ []) k.number
-            from_target p k node w = subst (IsFound held (number ∷ [])) (number_there p w.0 k w.2 node) (next w.0 place h (f.found_waiting place h last_waits is) is w.1)
+            from_target : (p : ℕ) (k : Held I R) → slice_get held p ≡ Some k
+                → (n : ℕ) × Contains (targets_of h.slot) n × HasNumber held p n → IsFound held (number ∷ []) k.number
+            from_target p k node w = subst (IsFound held (number ∷ [])) (number_there p w.0 k w.2 node)
+                (next w.0 place h (f.found_waiting place h last_waits is) is w.1)
 
             pub follow_next : AreWaiting more longer → IsFollowed held number old more longer
             follow_next waiting_are = record {
@@ -290,13 +328,15 @@ module _ {I R : Type 0} (held : List (Held I R)) where
               here = λ p has. marks.stays p (f.here p has);
               behind = λ p k other n m node target has. elim (marks.waits p m) [
                 | inl before ↦ elim (f.behind p k other n before node target has) [
-                  | inl waited ↦ elim (Contains-append_cases left (place ∷ []) p (subst (λ l. Contains l p) last waited)) [
-                    | inl still ↦ inl (marks.still p still)
-                    | inr now ↦
-                        let nodes : Some h ≡ Some k = sym is ∙ (ap (slice_get held) (only_number place p now) ∙ node) in
-                        let one : h ≡ k = cc in
-                        inr (marks.here other n (subst (λ x. Contains (targets_of x.slot) n) (sym one) target) has)
-                  ]
+                  | inl waited ↦
+                      elim (Contains-append_cases left (place ∷ []) p (subst (λ l. Contains l p) last waited)) [
+                        | inl still ↦ inl (marks.still p still)
+                        | inr now ↦
+                            let nodes : Some h ≡ Some k =
+                            sym is ∙ (ap (slice_get held) (only_number place p now) ∙ node) in
+                            let one : h ≡ k = cc in
+                            inr (marks.here other n (subst (λ x. Contains (targets_of x.slot) n) (sym one) target) has)
+                      ]
                   | inr done ↦ inr (marks.stays other done)
                 ]
                 | inr waits ↦ inl waits
@@ -330,19 +370,23 @@ when_ok (Err _) both p q = tt
 -- ---- one root after the other
 
 -- what is found from one of the roots is found from all of them
-found_from : {I R : Type 0} (held : List (Held I R)) (roots : List ℕ) (number : ℕ) → Contains roots number → (n : ℕ) → IsFound held (number ∷ []) n → IsFound held roots n
+found_from : {I R : Type 0} (held : List (Held I R)) (roots : List ℕ) (number : ℕ) → Contains roots number → (n : ℕ)
+    → IsFound held (number ∷ []) n → IsFound held roots n
 found_from held roots number has _ (root n is) = root n (subst (Contains roots) (only_number number n is) has)
-found_from held roots number has _ (next n place h before at target) = next n place h (found_from held roots number has h.number before) at target
+found_from held roots number has _ (next n place h before at target) =
+    next n place h (found_from held roots number has h.number before) at target
 
 -- what is known once some of the roots were followed
 pub record AreFollowed {I R : Type 0} (held : List (Held I R)) (roots done : List ℕ) (marked : List Bool) : Type 0 where
   pub each : length marked ≡ length held
   pub closed : IsClosed held marked
   pub rooted : (place n : ℕ) → Contains done n → HasNumber held place n → IsMarked marked place
-  pub found : (place : ℕ) (h : Held I R) → IsMarked marked place → slice_get held place ≡ Some h → IsFound held roots h.number
+  pub found : (place : ℕ) (h : Held I R) → IsMarked marked place
+      → slice_get held place ≡ Some h → IsFound held roots h.number
 
 module _ {I R : Type 0} (held : List (Held I R)) (roots : List ℕ) where
-  pub none_followed : (none : List Bool) (waiting : List ℕ) → AreNone (length held) none waiting → AreFollowed held roots [] none
+  pub none_followed : (none : List Bool) (waiting : List ℕ)
+      → AreNone (length held) none waiting → AreFollowed held roots [] none
   none_followed none waiting start = record {
     each = start.each;
     closed = λ p h other n m. absurd (start.none p m);
@@ -350,7 +394,9 @@ module _ {I R : Type 0} (held : List (Held I R)) (roots : List ℕ) where
     found = λ p h m. absurd (start.none p m);
   }
 
-  root_followed : (done : List ℕ) (number : ℕ) (marked more : List Bool) → Contains roots number → AreFollowed held roots done marked → IsClosed held more → MarksFrom held number marked more → AreFollowed held roots (done ++ number ∷ []) more
+  root_followed : (done : List ℕ) (number : ℕ) (marked more : List Bool) → Contains roots number
+      → AreFollowed held roots done marked → IsClosed held more → MarksFrom held number marked more
+      → AreFollowed held roots (done ++ number ∷ []) more
   root_followed done number marked more has f closed marks = record {
     each = marks.each ∙ f.each;
     closed = closed;
@@ -371,18 +417,28 @@ numbers_of nodes = map (λ n. n.0) nodes
 module _ {I R : Type 0} (held : List (Held I R)) (last : Option NodeId) (roots : List NodeId) (i : ℕ) where
   is_root : (o : Option NodeId) (n : ℕ) → Contains (numbers_of roots) n → Contains (numbers_of (with_root o roots)) n
   is_root None n has = has
-  is_root (Some r) n has = subst (λ l. Contains l n) (sym (map-append (λ n. n.0) roots (r ∷ []))) (Contains-append_left (numbers_of roots) (r.0 ∷ []) n has)
+  is_root (Some r) n has = subst (λ l. Contains l n) (sym (map-append (λ n. n.0) roots (r ∷ [])))
+      (Contains-append_left (numbers_of roots) (r.0 ∷ []) n has)
 
-  pub next_followed : (x d : NodeId) → i < length roots → x ≡ get_or roots i d → (marked more : List Bool) → AreFollowed held (numbers_of (with_root last roots)) (numbers_of (take i roots)) marked → IsClosed held more → MarksFrom held x.0 marked more → AreFollowed held (numbers_of (with_root last roots)) (numbers_of (take (i + 1) roots)) more
+  pub next_followed : (x d : NodeId) → i < length roots → x ≡ get_or roots i d → (marked more : List Bool)
+      → AreFollowed held (numbers_of (with_root last roots)) (numbers_of (take i roots)) marked
+      → IsClosed held more → MarksFrom held x.0 marked more
+      → AreFollowed held (numbers_of (with_root last roots)) (numbers_of (take (i + 1) roots)) more
   next_followed x d lt is marked more before closed marks =
-      let has = Contains-mapped (λ n. n.0) roots x (i, lt, get_or_from_slice_get roots i x x (slice_get-get_or roots i d lt ∙ ap Some (sym is))) in
+      let has = Contains-mapped (λ n. n.0) roots x
+      (i, lt, get_or_from_slice_get roots i x x (slice_get-get_or roots i d lt ∙ ap Some (sym is))) in
       subst (λ l. AreFollowed held (numbers_of (with_root last roots)) l more)
-      (sym (map-append (λ n. n.0) (take i roots) (x ∷ [])) ∙ ap numbers_of (ap (λ y. take i roots ++ y ∷ []) is ∙ sym (take_more roots i d lt)))
-      (root_followed held (numbers_of (with_root last roots)) (numbers_of (take i roots)) x.0 marked more (is_root last x.0 has) before closed marks)
+      (sym (map-append (λ n. n.0) (take i roots) (x ∷ []))
+      ∙ ap numbers_of (ap (λ y. take i roots ++ y ∷ []) is ∙ sym (take_more roots i d lt)))
+      (root_followed held (numbers_of (with_root last roots)) (numbers_of (take i roots)) x.0 marked more
+      (is_root last x.0 has) before closed marks)
 
 -- all were followed, and then the last one
-module _ {I R : Type 0} (held : List (Held I R)) (roots : List NodeId) (i : ℕ) (end : length roots ≤ i) (marked : List Bool) where
-  pub all_followed : (last : Option NodeId) → last ≡ None → AreFollowed held (numbers_of (with_root last roots)) (numbers_of (take i roots)) marked → AreMarked held (numbers_of (with_root last roots)) marked
+module _ {I R : Type 0} (held : List (Held I R)) (roots : List NodeId) (i : ℕ)
+    (end : length roots ≤ i) (marked : List Bool) where
+  pub all_followed : (last : Option NodeId) → last ≡ None
+      → AreFollowed held (numbers_of (with_root last roots)) (numbers_of (take i roots)) marked
+      → AreMarked held (numbers_of (with_root last roots)) marked
   all_followed None none a = record {
     each = a.each;
     rooted = λ p n is. a.rooted p n (subst (λ l. Contains (numbers_of l) n) (sym (take_all roots i end)) is);
@@ -391,12 +447,22 @@ module _ {I R : Type 0} (held : List (Held I R)) (roots : List NodeId) (i : ℕ)
   }
   all_followed (Some r) none a = absurd cc
 
-  pub last_followed : (last : Option NodeId) (node : NodeId) → last ≡ Some node → AreFollowed held (numbers_of (with_root last roots)) (numbers_of (take i roots)) marked → (more : List Bool) → IsClosed held more → MarksFrom held node.0 marked more → AreMarked held (numbers_of (with_root last roots)) more
+  pub last_followed : (last : Option NodeId) (node : NodeId) → last ≡ Some node
+      → AreFollowed held (numbers_of (with_root last roots)) (numbers_of (take i roots)) marked → (more : List Bool)
+      → IsClosed held more → MarksFrom held node.0 marked more → AreMarked held (numbers_of (with_root last roots)) more
   last_followed None node is a more closed marks = absurd cc
   last_followed (Some r) node is a more closed marks =
       let all = numbers_of (roots ++ r ∷ []) in
       let one : node.0 ≡ r.0 = cc in
-      let whole : numbers_of (take i roots) ++ r.0 ∷ [] ≡ all = ap (λ l. numbers_of l ++ r.0 ∷ []) (take_all roots i end) ∙ sym (map-append (λ n. n.0) roots (r ∷ [])) in
-      let has : Contains all r.0 = subst (λ l. Contains l r.0) whole (Contains-append_right (numbers_of (take i roots)) (r.0 ∷ []) r.0 (zero, omega arith, refl)) in
-      let f = root_followed held all (numbers_of (take i roots)) r.0 marked more has a closed (subst (λ n. MarksFrom held n marked more) one marks) in
-      record { each = f.each; rooted = λ p n is. f.rooted p n (subst (λ l. Contains l n) (sym whole) is); closed = f.closed; found = f.found }
+      let whole : numbers_of (take i roots) ++ r.0 ∷ [] ≡ all =
+      ap (λ l. numbers_of l ++ r.0 ∷ []) (take_all roots i end) ∙ sym (map-append (λ n. n.0) roots (r ∷ [])) in
+      let has : Contains all r.0 = subst (λ l. Contains l r.0) whole
+      (Contains-append_right (numbers_of (take i roots)) (r.0 ∷ []) r.0 (zero, omega arith, refl)) in
+      let f = root_followed held all (numbers_of (take i roots)) r.0 marked more has a closed
+      (subst (λ n. MarksFrom held n marked more) one marks) in
+      record {
+        each = f.each;
+        rooted = λ p n is. f.rooted p n (subst (λ l. Contains l n) (sym whole) is);
+        closed = f.closed;
+        found = f.found;
+      }

@@ -1,6 +1,7 @@
--- A cache's list of nodes as it grows: an open node is appended, or the run of an open node ends. Nodes keep their goals,
--- finished nodes stay as they are, and runs stay runs.
-use Rattle.std.proofs.Common.{◌≡◌, ℕ, Bool, true, false, if◌then◌else◌, List, [], ◌∷◌, ◌++◌, Option, None, Some, option_map, slice_get, slice_set, refl, sym, ◌∙◌, ap, subst, inl, inr}
+-- A cache's list of nodes as it grows: an open node is appended, or the run of an open node ends. Nodes keep their
+-- goals, finished nodes stay as they are, and runs stay runs.
+use Rattle.std.proofs.Common.{◌≡◌, ℕ, Bool, true, false, if◌then◌else◌, List, [], ◌∷◌, ◌++◌, Option, None, Some}
+use Rattle.std.proofs.Common.{option_map, slice_get, slice_set, refl, sym, ◌∙◌, ap, subst, inl, inr}
 use native.Mathlib.Decide.{ℕ_discrete}
 use Rattle.std.specs.Option.{IsSomeAnd}
 use Rattle.std.proofs.lemmas.List.{map-append, map-set}
@@ -9,20 +10,25 @@ use Rattle.open_graphs.specs.Graph as theory
 use Rattle.open_graphs.proofs.Lists.{mapped_some, get_left, get_cases, get_set_same, get_set_other}
 use Rattle.open_graphs.proofs.Keep.{append_grows, finish_grows}
 use Rattle.graph_nodes.specs.Below.{Request, Reply, Verdicts}
-use Rattle.graph_nodes.specs.Words.{EndedRun, CacheNode, goal_if_open, open_node, open_goal, with_run, IsNodeOf, IsRun, AreRuns, KeepsNodes, KeepsGoals, run_shape, shape_of, shapes_of}
+use Rattle.graph_nodes.specs.Words.{EndedRun, CacheNode, goal_if_open, open_node, open_goal, with_run, IsNodeOf, IsRun}
+use Rattle.graph_nodes.specs.Words.{AreRuns, KeepsNodes, KeepsGoals, run_shape, shape_of, shapes_of}
 
 -- what is at a place
-pub node_at : {I R : Type 0} (o : Option (CacheNode I R)) (goal : I) → option_map (λ n. n.goal) o ≡ Some goal → (n : CacheNode I R) × (o ≡ Some n) × (n.goal ≡ goal)
+pub node_at : {I R : Type 0} (o : Option (CacheNode I R)) (goal : I) → option_map (λ n. n.goal) o ≡ Some goal
+    → (n : CacheNode I R) × (o ≡ Some n) × (n.goal ≡ goal)
 node_at o goal h = mapped_some (λ n. n.goal) o goal h
 
-IsNodeOf-from : {I R : Type 0} (nodes : List (CacheNode I R)) (at : ℕ) (n : CacheNode I R) (goal : I) → slice_get nodes at ≡ Some n → n.goal ≡ goal → IsNodeOf nodes at goal
+IsNodeOf-from : {I R : Type 0} (nodes : List (CacheNode I R)) (at : ℕ) (n : CacheNode I R) (goal : I)
+    → slice_get nodes at ≡ Some n → n.goal ≡ goal → IsNodeOf nodes at goal
 IsNodeOf-from nodes at n goal is same = ap (option_map (λ m. m.goal)) is ∙ ap Some same
 
 KeepsGoals-from : {I R : Type 0} (old new : List (CacheNode I R)) → KeepsNodes old new → KeepsGoals old new
-KeepsGoals-from old new kept at goal h = let w = node_at (slice_get old at) goal h in IsNodeOf-from new at w.0 goal (kept at w.0 w.1) w.2
+KeepsGoals-from old new kept at goal h =
+    let w = node_at (slice_get old at) goal h in IsNodeOf-from new at w.0 goal (kept at w.0 w.1) w.2
 
 -- a run stays one while the nodes keep their goals
-IsRun-kept : {I R : Type 0} (says : Verdicts R) (script : List (Reply R) → Request I R) (old new : List (CacheNode I R)) (run : EndedRun I R) → KeepsGoals old new → IsRun says script old run → IsRun says script new run
+IsRun-kept : {I R : Type 0} (says : Verdicts R) (script : List (Reply R) → Request I R) (old new : List (CacheNode I R))
+    (run : EndedRun I R) → KeepsGoals old new → IsRun says script old run → IsRun says script new run
 IsRun-kept says script old new run kept h = record {
   ends = h.ends;
   yes = h.yes;
@@ -34,39 +40,54 @@ IsRun-kept says script old new run kept h = record {
 abbrev pub appended : {I R : Type 0} → Bool → List (CacheNode I R) → I → List (CacheNode I R)
 appended grew nodes goal = if grew then nodes ++ open_node goal ∷ [] else nodes
 
-pub KeepsNodes-appended : {I R : Type 0} (grew : Bool) (nodes : List (CacheNode I R)) (goal : I) → KeepsNodes nodes (appended grew nodes goal)
+pub KeepsNodes-appended : {I R : Type 0} (grew : Bool) (nodes : List (CacheNode I R)) (goal : I)
+    → KeepsNodes nodes (appended grew nodes goal)
 KeepsNodes-appended true nodes goal at n is = get_left nodes (open_node goal ∷ []) at n is
 KeepsNodes-appended false nodes goal at n is = is
 
-pub KeepsGoals-appended : {I R : Type 0} (grew : Bool) (nodes : List (CacheNode I R)) (goal : I) → KeepsGoals nodes (appended grew nodes goal)
-KeepsGoals-appended grew nodes goal = KeepsGoals-from nodes (appended grew nodes goal) (KeepsNodes-appended grew nodes goal)
+pub KeepsGoals-appended : {I R : Type 0} (grew : Bool) (nodes : List (CacheNode I R)) (goal : I)
+    → KeepsGoals nodes (appended grew nodes goal)
+KeepsGoals-appended grew nodes goal =
+    KeepsGoals-from nodes (appended grew nodes goal) (KeepsNodes-appended grew nodes goal)
 
-pub Grown-appended : {I R : Type 0} (says : Verdicts R) (grew : Bool) (nodes : List (CacheNode I R)) (goal : I) → theory.Grown (shapes_of says nodes) (shapes_of says (appended grew nodes goal))
+pub Grown-appended : {I R : Type 0} (says : Verdicts R) (grew : Bool) (nodes : List (CacheNode I R)) (goal : I)
+    → theory.Grown (shapes_of says nodes) (shapes_of says (appended grew nodes goal))
 Grown-appended says true nodes goal =
-    subst (theory.Grown (shapes_of says nodes)) (sym (map-append (shape_of says) nodes (open_node goal ∷ []))) (append_grows (shapes_of says nodes))
+    subst (theory.Grown (shapes_of says nodes)) (sym (map-append (shape_of says) nodes (open_node goal ∷ [])))
+    (append_grows (shapes_of says nodes))
 Grown-appended says false nodes goal = λ at verdict edges is. is
 
-AreRuns-grown : {I R : Type 0} (says : Verdicts R) (scripts : I → List (Reply R) → Request I R) (nodes : List (CacheNode I R)) (goal : I) → AreRuns says scripts nodes → AreRuns says scripts (nodes ++ open_node goal ∷ [])
+AreRuns-grown : {I R : Type 0} (says : Verdicts R) (scripts : I → List (Reply R) → Request I R)
+    (nodes : List (CacheNode I R)) (goal : I)
+    → AreRuns says scripts nodes → AreRuns says scripts (nodes ++ open_node goal ∷ [])
 AreRuns-grown says scripts nodes goal h at n run is ended = elim (get_cases nodes (open_node goal) at n is) [
-  | inl old ↦ IsRun-kept says (scripts n.goal) nodes (nodes ++ open_node goal ∷ []) run (KeepsGoals-appended true nodes goal) (h at n run old ended)
+  | inl old ↦ IsRun-kept says (scripts n.goal) nodes (nodes ++ open_node goal ∷ []) run
+      (KeepsGoals-appended true nodes goal) (h at n run old ended)
   | inr new ↦ let none : None ≡ Some run = ap (λ x. x.run) new.1 ∙ ended in absurd cc
 ]
 
-pub AreRuns-appended : {I R : Type 0} (says : Verdicts R) (scripts : I → List (Reply R) → Request I R) (grew : Bool) (nodes : List (CacheNode I R)) (goal : I) → AreRuns says scripts nodes → AreRuns says scripts (appended grew nodes goal)
+pub AreRuns-appended : {I R : Type 0} (says : Verdicts R) (scripts : I → List (Reply R) → Request I R) (grew : Bool)
+    (nodes : List (CacheNode I R)) (goal : I)
+    → AreRuns says scripts nodes → AreRuns says scripts (appended grew nodes goal)
 AreRuns-appended says scripts true nodes goal h = AreRuns-grown says scripts nodes goal h
 AreRuns-appended says scripts false nodes goal h = h
 
-open_case : {I R : Type 0} (goal : I) (run : Option (EndedRun I R)) (gone : Bool) (P : I → Type 0) → IsSomeAnd (elim run [ None ↦ if gone then None else Some goal | Some r ↦ None ]) P → (run ≡ None) × (gone ≡ false) × P goal
+open_case : {I R : Type 0} (goal : I) (run : Option (EndedRun I R)) (gone : Bool) (P : I → Type 0)
+    → IsSomeAnd (elim run [ None ↦ if gone then None else Some goal | Some r ↦ None ]) P
+    → (run ≡ None) × (gone ≡ false) × P goal
 open_case goal None true P h = absurd h
 open_case goal None false P h = (refl, refl, h)
 open_case goal (Some r) gone P h = absurd h
 
-open_at : {I R : Type 0} (o : Option (CacheNode I R)) (P : I → Type 0) → IsSomeAnd (elim o [ None ↦ None | Some n ↦ goal_if_open n ]) P → (n : CacheNode I R) × (o ≡ Some n) × (n.run ≡ None) × P n.goal × (n.gone ≡ false)
+open_at : {I R : Type 0} (o : Option (CacheNode I R)) (P : I → Type 0)
+    → IsSomeAnd (elim o [ None ↦ None | Some n ↦ goal_if_open n ]) P
+    → (n : CacheNode I R) × (o ≡ Some n) × (n.run ≡ None) × P n.goal × (n.gone ≡ false)
 open_at None P h = absurd h
 open_at (Some n) P h = let w = open_case n.goal n.run n.gone P h in (n, refl, w.0, w.2, w.1)
 
 -- the run of an open node ends
-module _ {I R : Type 0} (nodes : List (CacheNode I R)) (k : ℕ) (run : EndedRun I R) (P : I → Type 0) (is_open : IsSomeAnd (open_goal nodes k) P) where
+module _ {I R : Type 0} (nodes : List (CacheNode I R)) (k : ℕ) (run : EndedRun I R) (P : I → Type 0)
+    (is_open : IsSomeAnd (open_goal nodes k) P) where
   -- the node before
   pub before : (n : CacheNode I R) × (slice_get nodes k ≡ Some n) × (n.run ≡ None) × P n.goal × (n.gone ≡ false)
   before = open_at (slice_get nodes k) P is_open
@@ -104,7 +125,10 @@ module _ {I R : Type 0} (nodes : List (CacheNode I R)) (k : ℕ) (run : EndedRun
       ∙ (ap (option_map (shape_of says)) before.1
       ∙ ap (λ r. Some (shape_of says (record before.0 { run = r }))) before.2))))
 
-pub AreRuns-ended : {I R : Type 0} (says : Verdicts R) (scripts : I → List (Reply R) → Request I R) (nodes : List (CacheNode I R)) (k : ℕ) (run : EndedRun I R) → IsSomeAnd (open_goal nodes k) (λ goal. IsRun says (scripts goal) nodes run) → AreRuns says scripts nodes → AreRuns says scripts (with_run nodes k run)
+pub AreRuns-ended : {I R : Type 0} (says : Verdicts R) (scripts : I → List (Reply R) → Request I R)
+    (nodes : List (CacheNode I R)) (k : ℕ) (run : EndedRun I R)
+    → IsSomeAnd (open_goal nodes k) (λ goal. IsRun says (scripts goal) nodes run) → AreRuns says scripts nodes
+    → AreRuns says scripts (with_run nodes k run)
 AreRuns-ended {I} {R} says scripts nodes k run is_open h at n r there ended =
     let P : I → Type 0 = λ goal. IsRun says (scripts goal) nodes run in
     let kept = KeepsGoals-ended nodes k run P is_open in

@@ -6,7 +6,9 @@ use Rattle.graph_nodes.specs.Words.{CacheNode, open_node}
 use Rattle.graph_nodes.proofs.NodeLists.{appended}
 
 -- an open node is appended, or none is
-pub is_appended : {I R E : Type 0} (answer : Result ℕ E) (old new : List (CacheNode I R)) (goal : I) → IfOk answer (λ number. new ≡ old ++ open_node goal ∷ []) → OnErr answer (new ≡ old) → new ≡ appended (is_ok answer) old goal
+pub is_appended : {I R E : Type 0} (answer : Result ℕ E) (old new : List (CacheNode I R)) (goal : I)
+    → IfOk answer (λ number. new ≡ old ++ open_node goal ∷ []) → OnErr answer (new ≡ old)
+    → new ≡ appended (is_ok answer) old goal
 is_appended (Ok number) old new goal pushed refused = pushed
 is_appended (Err e) old new goal pushed refused = refused
 

@@ -1,5 +1,6 @@
 -- The list of nodes once those were let go to which nothing leads any more.
-use Rattle.std.specs.Prelude.{◌≡◌, ◌⊎◌, ◌<◌, ◌++◌, ◌∷◌, [], ℕ, Bool, Contains, IsTrue, List, None, Option, slice_get, Some}
+use Rattle.std.specs.Prelude.{◌≡◌, ◌⊎◌, ◌<◌, ◌++◌, ◌∷◌, [], ℕ, Bool, Contains, IsTrue, List, None, Option}
+use Rattle.std.specs.Prelude.{slice_get, Some}
 use Rattle.search_context.specs.declared.context.Edge.{Edge}
 use Rattle.search_context.specs.declared.context.NodeId.{NodeId}
 use Rattle.search_context.specs.Graph.{HasEdge, IsReached}
@@ -16,10 +17,12 @@ with_root None roots = roots
 with_root (Some root) roots = roots ++ root ∷ []
 
 -- Live are the nodes before this place, and of the others those that are reached from a root.
-pub record AreLive {I R : Type 0} (nodes : List (CacheNode I R)) (first : ℕ) (roots : List NodeId) (live : ℕ → Bool) : Type 0 where
+pub record AreLive {I R : Type 0} (nodes : List (CacheNode I R)) (first : ℕ)
+    (roots : List NodeId) (live : ℕ → Bool) : Type 0 where
   pub earlier : (at : ℕ) → at < first → IsTrue (live at)
   pub rooted : (root : NodeId) → Contains roots root → IsTrue (live root.0)
-  pub reached : (at : ℕ) → IsTrue (live at) → (at < first) ⊎ ((root : NodeId) × Contains roots root × IsReached (graph_nodes_of nodes) root.0 at)
+  pub reached : (at : ℕ) → IsTrue (live at)
+      → (at < first) ⊎ ((root : NodeId) × Contains roots root × IsReached (graph_nodes_of nodes) root.0 at)
 
 -- Live nodes are as they were, and lead to live ones alone. Each other number is gone.
 pub record Collected {I R : Type 0} (live : ℕ → Bool) (old new : List (CacheNode I R)) : Type 0 where

@@ -1,5 +1,6 @@
 -- The nodes that are held, by rising numbers, and the list of all nodes that they stand for.
-use Rattle.std.specs.Prelude.{◌≡◌, ◌≢◌, ◌==◌, ◌<◌, ◌≤◌, ◌++◌, ℕ, zero, suc, if◌then◌else◌, Bool, true, IsSome, List, [], ◌∷◌, Option, None, Some, slice_get, length, not}
+use Rattle.std.specs.Prelude.{◌≡◌, ◌≢◌, ◌==◌, ◌<◌, ◌≤◌, ◌++◌, ℕ, zero, suc, if◌then◌else◌, Bool, true, IsSome, List, []}
+use Rattle.std.specs.Prelude.{◌∷◌, Option, None, Some, slice_get, length, not}
 use Rattle.std.specs.Option.{option_map}
 use Rattle.graph_nodes.specs.declared.node_list.Held.{Held}
 use Rattle.graph_nodes.specs.declared.node_list.Slot.{Slot}
@@ -28,7 +29,8 @@ nodes_of (Some goal) held next = nodes_below goal held next
 
 -- the numbers rise
 pub record IsRising {I R : Type 0} (held : List (Held I R)) : Type 0 where
-  pub rises : (i j : ℕ) (h k : Held I R) → i < j → slice_get held i ≡ Some h → slice_get held j ≡ Some k → h.number < k.number
+  pub rises : (i j : ℕ) (h k : Held I R) → i < j → slice_get held i ≡ Some h
+      → slice_get held j ≡ Some k → h.number < k.number
 
 -- the numbers rise to less than the next one, and where one was given out there is a goal
 pub record AreHeld {I R : Type 0} (first_goal : Option I) (held : List (Held I R)) (next : ℕ) : Type 0 where

@@ -1,6 +1,7 @@
--- The nodes of which graphs of answers are made. A node stands for one run of a goal. It is open until that run has ended,
--- and never changes from then on, but that it may be let go once nothing leads to it.
-use Rattle.std.specs.Prelude.{◌≡◌, ℕ, Bool, true, false, if◌then◌else◌, List, [], map, reverse, Option, None, Some, slice_get, slice_set}
+-- The nodes of which graphs of answers are made. A node stands for one run of a goal. It is open until that run has
+-- ended, and never changes from then on, but that it may be let go once nothing leads to it.
+use Rattle.std.specs.Prelude.{◌≡◌, ℕ, Bool, true, false, if◌then◌else◌, List, [], map, reverse, Option, None, Some}
+use Rattle.std.specs.Prelude.{slice_get, slice_set}
 use Rattle.std.specs.Option.{option_map}
 use Rattle.search_context.specs.declared.context.Request.{Request}
 use Rattle.search_context.specs.declared.context.Reply.{Reply}
@@ -15,7 +16,8 @@ pub record EndedRun (I R : Type 0) : Type 0 where
   pub edges : List (Edge I)
   pub outcome : R
 
--- A goal, and its run once that has ended. A node that was let go is gone: its number stays, with some goal and without a run.
+-- A goal, and its run once that has ended. A node that was let go is gone: its number stays, with some
+-- goal and without a run.
 pub record CacheNode (I R : Type 0) : Type 0 where
   pub goal : I
   pub run : Option (EndedRun I R)
@@ -61,7 +63,8 @@ KeepsNodes {I} {R} old new = (at : ℕ) (n : CacheNode I R) → slice_get old at
 
 -- each node whose run has ended is still the same
 abbrev pub KeepsFinished : {I R : Type 0} → List (CacheNode I R) → List (CacheNode I R) → Type 0
-KeepsFinished {I} {R} old new = (at : ℕ) (n : CacheNode I R) → finished_node old at ≡ Some n → finished_node new at ≡ Some n
+KeepsFinished {I} {R} old new =
+    (at : ℕ) (n : CacheNode I R) → finished_node old at ≡ Some n → finished_node new at ≡ Some n
 
 -- each node still has its goal
 abbrev pub KeepsGoals : {I R : Type 0} → List (CacheNode I R) → List (CacheNode I R) → Type 0
@@ -70,10 +73,13 @@ KeepsGoals {I} old new = (at : ℕ) (goal : I) → IsNodeOf old at goal → IsNo
 -- The run is one of this script: its replies end in its result, with no request out of order. Where the result is yes,
 -- the edges are the questions outside ignored candidates that were answered yes, in the order of asking; where it is
 -- no, those that were answered no. Each edge leads to a node of the goal that it asks.
-pub record IsRun {I R : Type 0} (says : Verdicts R) (script : List (Reply R) → Request I R) (nodes : List (CacheNode I R)) (run : EndedRun I R) : Type 0 where
+pub record IsRun {I R : Type 0} (says : Verdicts R) (script : List (Reply R) → Request I R)
+    (nodes : List (CacheNode I R)) (run : EndedRun I R) : Type 0 where
   pub ends : EndsIn script (reverse run.replies) run.outcome
-  pub yes : says.is_yes run.outcome ≡ true → map question_of run.edges ≡ questions_answered says.is_yes (progress_after script (reverse run.replies))
-  pub no : says.is_no run.outcome ≡ true → map question_of run.edges ≡ questions_answered says.is_no (progress_after script (reverse run.replies))
+  pub yes : says.is_yes run.outcome ≡ true
+      → map question_of run.edges ≡ questions_answered says.is_yes (progress_after script (reverse run.replies))
+  pub no : says.is_no run.outcome ≡ true
+      → map question_of run.edges ≡ questions_answered says.is_no (progress_after script (reverse run.replies))
   pub targets : (i : ℕ) (e : Edge I) → slice_get run.edges i ≡ Some e → IsNodeOf nodes e.target e.input
 
 -- each run of the list that has ended is one of its goal

@@ -6,8 +6,10 @@ pub use Rattle.graph_nodes.specs.Collected.{AreLive, Collected, StayBefore, with
 pub use Rattle.graph_nodes.specs.Definite.{HasGraph, HasNode}
 pub use Rattle.graph_nodes.specs.Found.{ArePlaced, Finds}
 pub use Rattle.graph_nodes.specs.HandedOut.{Copies, IsCopyFrom, IsWhole, KeepsWhole, original_node}
-pub use Rattle.graph_nodes.specs.Held.{AreHeld, HasNumber, is_held, IsGone, IsRising, IsSplit, IsWindow, node_if_held, nodes_below, nodes_of, slot_at}
-pub use Rattle.graph_nodes.specs.Marked.{AreMarked, AreNone, AreWaiting, edges_of, IsClosed, IsFound, IsMarked, kept, Marks, MarksFrom, targets_of, unmarked}
+pub use Rattle.graph_nodes.specs.Held.{AreHeld, HasNumber, is_held, IsGone, IsRising, IsSplit, IsWindow, node_if_held}
+pub use Rattle.graph_nodes.specs.Held.{nodes_below, nodes_of, slot_at}
+pub use Rattle.graph_nodes.specs.Marked.{AreMarked, AreNone, AreWaiting, edges_of, IsClosed, IsFound, IsMarked, kept}
+pub use Rattle.graph_nodes.specs.Marked.{Marks, MarksFrom, targets_of, unmarked}
 pub use Rattle.graph_nodes.specs.Marked.IsFound.{root, next}
 pub use Rattle.graph_nodes.specs.Shapes.{edge_shape, HasGrown, run_shape, shape_of, shapes_of}
 pub use Rattle.graph_nodes.specs.View.{ended_node, node_of, run_of}

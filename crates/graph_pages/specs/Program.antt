@@ -3,7 +3,8 @@ use Rattle.std.specs.Prelude.{◌≡◌, ℕ, Bool, true, List, map, Option, Som
 use Rattle.std.specs.Borrow.{Bor}
 use Rattle.std.specs.Io.KnownBytes.{Keeps}
 use Rattle.json.specs.Lex.{tokens}
-use Rattle.graph_pages.specs.Below.{CxOf, DelegateOf, Goal, IsFirstBadLine, Outcome, questions_of, Reads, Rules, Table, verdicts}
+use Rattle.graph_pages.specs.Below.{CxOf, DelegateOf, Goal, IsFirstBadLine, Outcome, questions_of, Reads, Rules}
+use Rattle.graph_pages.specs.Below.{Table, verdicts}
 use Rattle.graph_data.specs.Data.{plain_claim, PlainClaim}
 use Rattle.graph_data.specs.Page.{IsPage, IsPageText, IsWrittenPage}
 use Rattle.graph_data.specs.Rules.{AreSameRules}
@@ -30,9 +31,10 @@ module _ (known old new : Option (List ℕ)) where
   EndsChecking InputOrOutput = ⊤
   EndsChecking Memory = ⊤
 
-module _ {D V P F A T : Type 0} (G : DelegateOf D (Table (Bor Rules)) V P F Goal Outcome A T) (X : CxOf (Table (Bor Rules)) Goal Outcome A T) (known old new : Option (List ℕ)) where
-  -- The text, which is the known one where one is known, makes a table, and all its questions were asked. As data a page is
-  -- written that has the same rules and the claims of their answers, in order.
+module _ {D V P F A T : Type 0} (G : DelegateOf D (Table (Bor Rules)) V P F Goal Outcome A T)
+    (X : CxOf (Table (Bor Rules)) Goal Outcome A T) (known old new : Option (List ℕ)) where
+  -- The text, which is the known one where one is known, makes a table, and all its questions were asked. As data a
+  -- page is written that has the same rules and the claims of their answers, in order.
   pub record ShowsAnswers (form : Form) (all_fine : Bool) : Type 0 where
     pub text : List ℕ
     pub is_known : IfSome known (λ bytes. text ≡ bytes)
@@ -52,14 +54,17 @@ module _ {D V P F A T : Type 0} (G : DelegateOf D (Table (Bor Rules)) V P F Goal
     pub are_judged : AreJudged (verdicts X) (G.script table) table.lender.now claims none_refused old new
 
 -- What a check finds are these rules and these claims, none of which it refuses.
-pub record ReadsBack (rules : Rules) (claims : List PlainClaim) (found : Rules) (read : List PlainClaim) (none_refused : Bool) : Type 0 where
+pub record ReadsBack (rules : Rules) (claims : List PlainClaim) (found : Rules) (read : List PlainClaim)
+    (none_refused : Bool) : Type 0 where
   pub same_rules : AreSameRules rules found
   pub same_claims : read ≡ claims
   pub accepted : none_refused ≡ true
 
-module _ {D V P F A T : Type 0} (G : DelegateOf D (Table (Bor Rules)) V P F Goal Outcome A T) (X : CxOf (Table (Bor Rules)) Goal Outcome A T) where
+module _ {D V P F A T : Type 0} (G : DelegateOf D (Table (Bor Rules)) V P F Goal Outcome A T)
+    (X : CxOf (Table (Bor Rules)) Goal Outcome A T) where
   -- The text is a page, so it is never bad data, and whatever checks it finds these rules and claims.
   pub record IsReadBack (rules : Rules) (claims : List PlainClaim) (text : List ℕ) : Type 0 where
     pub is_page : IsPageText text
-    pub finds : (old new : Option (List ℕ)) (none_refused : Bool) (checked : IsJudgedPage G X (Some text) old new none_refused) →
+    pub finds : (old new : Option (List ℕ)) (none_refused : Bool)
+        (checked : IsJudgedPage G X (Some text) old new none_refused) →
         ReadsBack rules claims checked.table.lender.now (map plain_claim checked.claims) none_refused

@@ -23,17 +23,19 @@ is_not_refused NoGraph = true
 
 -- the goal's name, its outcome, and what is said: `A yes accepted`, and a newline
 abbrev pub line_said : Rules → Goal → Outcome → Said → List ℕ
-line_said rules goal outcome said = unwrap_or (name_of rules goal) [] ++ codes " " ++ word_of outcome ++ codes " " ++ said_words said ++ codes "\n"
+line_said rules goal outcome said =
+    unwrap_or (name_of rules goal) [] ++ codes " " ++ word_of outcome ++ codes " " ++ said_words said ++ codes "\n"
 
 module _ (says : Verdicts Outcome) (scripts : Goal → List (Reply Outcome) → Request Goal Outcome) where
-  -- A claim is accepted exactly if its graph is valid for its goal and its outcome. It is told as one without a graph exactly
-  -- if it has no nodes and its outcome is neither yes nor no.
+  -- A claim is accepted exactly if its graph is valid for its goal and its outcome. It is told as one without a graph
+  -- exactly if it has no nodes and its outcome is neither yes nor no.
   pub record IsJudged (claim : Claim) (said : Said) : Type 0 where
     pub accepted : (said ≡ Accepted) ↔ IsValidFor says (verdict_of claim.outcome) scripts claim.nodes.items claim.goal
     pub no_graph : (said ≡ NoGraph) ↔ ((verdict_of claim.outcome ≡ verdict.Neither) × (claim.nodes.items ≡ []))
 
   -- Each claim was judged, and their lines were written in order; `none_refused` says that none was refused.
-  pub record AreJudged (rules : Rules) (claims : List Claim) (none_refused : Bool) (old new : Option (List ℕ)) : Type 0 where
+  pub record AreJudged (rules : Rules) (claims : List Claim) (none_refused : Bool)
+      (old new : Option (List ℕ)) : Type 0 where
     pub judged : List (Claim × Said)
     pub are_claims : map (λ j. j.0) judged ≡ claims
     pub are_right : All (λ j. IsJudged j.0 j.1) judged

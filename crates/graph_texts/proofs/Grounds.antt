@@ -1,5 +1,6 @@
 -- What a set of questions says of edges.
-use Rattle.std.proofs.Common.{◌≡◌, ◌∙◌, ◌||◌, ◌&&◌, ◌+◌, ◌++◌, ℕ, Bool, Some, slice_get, take, true, false, List, [], ◌∷◌, ap, arith, inl, inr, refl, rules, subst, sym, Contains, ◌↔◌}
+use Rattle.std.proofs.Common.{◌≡◌, ◌∙◌, ◌||◌, ◌&&◌, ◌+◌, ◌++◌, ℕ, Bool, Some, slice_get, take, true, false, List, []}
+use Rattle.std.proofs.Common.{◌∷◌, ap, arith, inl, inr, refl, rules, subst, sym, Contains, ◌↔◌}
 use Rattle.open_graphs.proofs.Members.{contains_later, first_or_later}
 use Rattle.std.proofs.lemmas.Bool.{and_parts, false≢true, or_cases}
 use Rattle.std.proofs.lemmas.List.{take_more}
@@ -14,7 +15,8 @@ or_right : (a : Bool) → (a || true) ≡ true
 or_right true = refl
 or_right false = refl
 
-module _ {K : Type 0} (eq : K → K → Bool) (exact : (x y : K) → eq x y ≡ true → x ≡ y) (same : (x : K) → eq x x ≡ true) where
+module _ {K : Type 0} (eq : K → K → Bool) (exact : (x y : K) → eq x y ≡ true → x ≡ y)
+    (same : (x : K) → eq x x ≡ true) where
   any_finds : (keys : List K) (key : K) → list_any (eq key) keys ≡ true → Contains keys key
   any_finds [] key found = absurd (false≢true found)
   any_finds (first ∷ keys) key found = elim (or_cases (eq key first) (list_any (eq key) keys) found) [
@@ -25,7 +27,8 @@ module _ {K : Type 0} (eq : K → K → Bool) (exact : (x y : K) → eq x y ≡ 
   found_by_any : (keys : List K) (key : K) → Contains keys key → list_any (eq key) keys ≡ true
   found_by_any [] key there = absurd (omega (arith, there.1))
   found_by_any (first ∷ keys) key there = elim (first_or_later first key keys there) [
-    | inl here ↦ let equal : eq key first ≡ true = subst (λ other. eq key other ≡ true) (sym here) (same key) in ap (λ b. b || list_any (eq key) keys) equal
+    | inl here ↦ let equal : eq key first ≡ true = subst (λ other. eq key other ≡ true) (sym here) (same key) in
+        ap (λ b. b || list_any (eq key) keys) equal
     | inr later ↦ ap (λ b. eq key first || b) (found_by_any keys key later) ∙ or_right (eq key first)
   ]
 
@@ -66,10 +69,13 @@ pub question_same : (x : PathKind × Goal) → same_question x x ≡ true
 question_same (k, g) = ap (λ b. b && eq-goal.it g g) (kind_same k) ∙ goal_same g
 
 -- a question is found in the set exactly if it is a member
-pub question_tells : (keys : List (PathKind × Goal)) (key : PathKind × Goal) → (list_any (same_question key) keys ≡ true) ↔ Contains keys key
+pub question_tells : (keys : List (PathKind × Goal)) (key : PathKind × Goal)
+    → (list_any (same_question key) keys ≡ true) ↔ Contains keys key
 question_tells = any_tells same_question question_exact question_same
 
 -- one item more
-pub take_one_more : {A : Type 0} (xs : List A) (n : ℕ) (x : A) → Some x ≡ slice_get xs n → take (n + 1) xs ≡ take n xs ++ x ∷ []
+pub take_one_more : {A : Type 0} (xs : List A) (n : ℕ) (x : A) → Some x ≡ slice_get xs n
+    → take (n + 1) xs ≡ take n xs ++ x ∷ []
 take_one_more xs n x is =
-    take_more xs n x (slice_get_within xs n x (sym is)) ∙ ap (λ y. take n xs ++ y ∷ []) (get_or_from_slice_get xs n x x (sym is))
+    take_more xs n x (slice_get_within xs n x (sym is))
+    ∙ ap (λ y. take n xs ++ y ∷ []) (get_or_from_slice_get xs n x x (sym is))

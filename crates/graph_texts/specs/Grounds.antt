@@ -1,4 +1,5 @@
--- What a node rests on: the questions of its edges. They say by which rule its goal holds, and at which question each rule fails.
+-- What a node rests on: the questions of its edges. They say by which rule its goal holds, and at which
+-- question each rule fails.
 use Rattle.std.specs.Prelude.{◌↔◌, All, Contains, List, map, Option, None, Some}
 use Rattle.graph_texts.specs.Below.{Asking, Candidate, Edge, Goal, PathKind}
 
@@ -11,7 +12,8 @@ question_of edge = (edge.kind, edge.input)
 
 -- these are the questions of the edges
 abbrev pub AreQuestions : List (Edge Goal) → List (PathKind × Goal) → Type 0
-AreQuestions edges questions = (question : PathKind × Goal) → Contains questions question ↔ Contains (map question_of edges) question
+AreQuestions edges questions =
+    (question : PathKind × Goal) → Contains questions question ↔ Contains (map question_of edges) question
 
 module _ (questions : List (PathKind × Goal)) where
   -- the question is one of these

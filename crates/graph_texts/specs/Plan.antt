@@ -1,5 +1,7 @@
 -- The lines of a graph's text, before they are words.
-use Rattle.std.specs.Prelude.{◌≡◌, ℕ, ◌+◌, zero, suc, nat_eq, nat_le, nat_lt, Bool, true, false, ◌&&◌, ◌||◌, ◌⊎◌, if◌then◌else◌, List, [], ◌∷◌, ◌++◌, length, map, fold, Option, Some, None, option_map, option_and_then, slice_get}
+use Rattle.std.specs.Prelude.{◌≡◌, ℕ, ◌+◌, zero, suc, nat_eq, nat_le, nat_lt, Bool, true, false, ◌&&◌, ◌||◌, ◌⊎◌}
+use Rattle.std.specs.Prelude.{if◌then◌else◌, List, [], ◌∷◌, ◌++◌, length, map, fold, Option, Some, None, option_map}
+use Rattle.std.specs.Prelude.{option_and_then, slice_get}
 use Rattle.std.specs.List.{filter_map, IsDistinct, list_all, list_any}
 use Rattle.std.specs.Option.{option_map_or}
 use Rattle.graph_texts.specs.Below.{Goal, Node, Outcome}
@@ -28,7 +30,8 @@ abbrev pub left_out : ℕ → List Line → ℕ
 left_out zero lines = 0
 left_out (suc place) lines = left_out place lines + (if list_any (nat_eq place) (places_shown lines) then 0 else 1)
 
--- A line leaves its node out only where it stands deeper than `most`, or where there are no more nodes, and none shows one there.
+-- A line leaves its node out only where it stands deeper than `most`, or where there are no more nodes, and
+-- none shows one there.
 abbrev pub is_cut_below : ℕ → ℕ → Line → Bool
 is_cut_below most count (Shown place level number) = nat_le level most
 is_cut_below most count (Again place level number closes) = true
@@ -63,12 +66,14 @@ is_found shown line = is_cut line || list_any (nat_eq (place_of line)) shown
 abbrev pub AreFound : List Line → Type 0
 AreFound lines = list_all (is_found (places_shown lines)) lines ≡ true
 
--- Where lines are read, there is for each node on the way down, the newest first, a list of the targets of its edges that
--- have no line yet. The next line has to be of the first target of the newest node that has one left, and one level below it.
+-- Where lines are read, there is for each node on the way down, the newest first, a list of the targets of its
+-- edges that have no line yet. The next line has to be of the first target of the newest node that has one left,
+-- and one level below it.
 abbrev pub next_line : ℕ → ℕ → List (List ℕ) → Option (List (List ℕ))
 next_line place level [] = None
 next_line place level ([] ∷ pending) = next_line place level pending
-next_line place level ((target ∷ targets) ∷ pending) = if nat_eq place target && nat_eq level (length pending) then Some (targets ∷ pending) else None
+next_line place level ((target ∷ targets) ∷ pending) =
+    if nat_eq place target && nat_eq level (length pending) then Some (targets ∷ pending) else None
 
 module _ (nodes : List (Node Goal Outcome)) where
   -- the places that the node's edges lead to, in order
@@ -110,13 +115,15 @@ is_unseen (marked.Done number) = false
 
 -- the node was seen: its lines are begun, or at their end
 abbrev pub WasSeen : List Mark → ℕ → ℕ → Type 0
-WasSeen marks place number = (slice_get marks place ≡ Some (marked.Open number)) ⊎ (slice_get marks place ≡ Some (marked.Done number))
+WasSeen marks place number =
+    (slice_get marks place ≡ Some (marked.Open number)) ⊎ (slice_get marks place ≡ Some (marked.Done number))
 
 -- what holds of a walk between two lines: exactly the nodes that were seen are shown
 pub record ShowsSeen (lines : List Line) (marks : List Mark) : Type 0 where
   pub once : AreShownOnce lines
   pub found : AreFound lines
-  pub unseen : (place : ℕ) → slice_get marks place ≡ Some marked.Unseen → list_any (nat_eq place) (places_shown lines) ≡ false
+  pub unseen : (place : ℕ) → slice_get marks place ≡ Some marked.Unseen
+      → list_any (nat_eq place) (places_shown lines) ≡ false
   pub seen : (place number : ℕ) → WasSeen marks place number → list_any (nat_eq place) (places_shown lines) ≡ true
 
 -- the targets that are to come below the open nodes

@@ -1,11 +1,14 @@
 -- Runs that are replayed, so that their results rest on fewer answers.
 use Rattle.std.specs.Prelude.{◌≡◌, ◌<◌, ◌⊎◌, ℕ, List, ◌∷◌, Option, Some, None, Contains}
 use Rattle.open_graphs.specs.Graph.{cycle_kind, HasShapeEdge}
-use Rattle.lean_runs.specs.Below.{CacheNode, CxOf, DelegateOf, PathKind, Verdict, NodeId, Request, Evaluate, Reply, Answer, Received, DefiniteAnswer, RunRecord, Records, Edge, IsEdgeOfAnswer, IsFitting, IsNeither, IsNodeOf, edge_to, edges_of, rank_of, request_after, shapes_of, Verdicts, verdicts, CameTo}
+use Rattle.lean_runs.specs.Below.{CacheNode, CxOf, DelegateOf, PathKind, Verdict, NodeId, Request, Evaluate, Reply}
+use Rattle.lean_runs.specs.Below.{Answer, Received, DefiniteAnswer, RunRecord, Records, Edge, IsEdgeOfAnswer, IsFitting}
+use Rattle.lean_runs.specs.Below.{IsNeither, IsNodeOf, edge_to, edges_of, rank_of, request_after, shapes_of, Verdicts}
+use Rattle.lean_runs.specs.Below.{verdicts, CameTo}
 use Rattle.lean_runs.specs.Backed.{IsBacked, verdict_shape}
 
--- the node is of an answer on record on which a result of the verdict rests, over a step of the kind of its cycles, and was written
--- after the run's own; so it is if there is one
+-- the node is of an answer on record on which a result of the verdict rests, over a step of the kind of its cycles, and
+-- was written after the run's own; so it is if there is one
 pub record IsGuide {I R : Type 0} (own : ℕ) (told : RunRecord I R) (verdict : Verdict) (node : NodeId) : Type 0 where
   pub kind : PathKind
   pub goal : I
@@ -17,11 +20,13 @@ abbrev pub IsGuided : {I R : Type 0} → ℕ → RunRecord I R → Verdict → O
 IsGuided own told verdict guide = (node : NodeId) → guide ≡ Some node → IsGuide own told verdict node
 
 -- the node has this verdict, and an edge that asks this and leads there, to a node of the goal
-pub record LeadsTo {I R : Type 0} (says : Verdicts R) (nodes : List (CacheNode I R)) (verdict : Verdict) (node : ℕ) (kind : PathKind) (goal : I) (target : ℕ) : Type 0 where
+pub record LeadsTo {I R : Type 0} (says : Verdicts R) (nodes : List (CacheNode I R)) (verdict : Verdict) (node : ℕ)
+    (kind : PathKind) (goal : I) (target : ℕ) : Type 0 where
   pub edge : HasShapeEdge (shapes_of says nodes) (verdict_shape verdict) node (rank_of kind) target
   pub of_goal : IsNodeOf nodes target goal
 
-module _ {I R : Type 0} (says : Verdicts R) (nodes : List (CacheNode I R)) (own : ℕ) (told : RunRecord I R) (verdict : Verdict) where
+module _ {I R : Type 0} (says : Verdicts R) (nodes : List (CacheNode I R)) (own : ℕ)
+    (told : RunRecord I R) (verdict : Verdict) where
   -- the edge may stand in the node of the run that is on record
   abbrev pub IsBackedEdge : Edge I → Type 0
   IsBackedEdge = IsBacked says nodes own told.answers told.ignored (verdict_shape verdict)
@@ -30,8 +35,8 @@ module _ {I R : Type 0} (says : Verdicts R) (nodes : List (CacheNode I R)) (own 
   abbrev pub IsBackedQuestion : PathKind → I → NodeId → Type 0
   IsBackedQuestion kind goal node = IsBackedEdge (edge_to kind goal node)
 
-  -- The reply to a question in a replay for this verdict: some result, with a node to which an edge may lead that asks the question, or
-  -- one that is neither yes nor no.
+  -- The reply to a question in a replay for this verdict: some result, with a node to which an edge may lead that asks
+  -- the question, or one that is neither yes nor no.
   pub data IsAnsweredAgain (kind : PathKind) (goal : I) : Received R → Type 0 where
     OnRecord :
         (r : R) (node : NodeId)
@@ -51,9 +56,10 @@ module _ {I R : Type 0} (says : Verdicts R) (nodes : List (CacheNode I R)) (own 
   GivesAgain (Some (Evaluate kind goal)) given = IsAnsweredAgain kind goal given
   GivesAgain _ given = (given.node ≡ None) × ((r : R) → given.reply ≡ Answer r → ⊥)
 
-module _ {D C V P F I R A T : Type 0} (G : DelegateOf D C V P F I R A T) (X : CxOf C I R A T) (cx : C) (goal : I) (nodes : List (CacheNode I R)) (own : ℕ) (told : RunRecord I R) (verdict : Verdict) where
-  -- A replay has come so far: its frame and its record have had the same replies, and can take this one, and what was answered rests on
-  -- the other record.
+module _ {D C V P F I R A T : Type 0} (G : DelegateOf D C V P F I R A T) (X : CxOf C I R A T) (cx : C) (goal : I)
+    (nodes : List (CacheNode I R)) (own : ℕ) (told : RunRecord I R) (verdict : Verdict) where
+  -- A replay has come so far: its frame and its record have had the same replies, and can take this one, and what was
+  -- answered rests on the other record.
   pub record IsReplaying (frame : F) (lean : RunRecord I R) (given : Received R) : Type 0 where
     pub replies : List (Reply R)
     pub stood : G.stands frame cx goal replies
@@ -71,7 +77,8 @@ module _ {D C V P F I R A T : Type 0} (G : DelegateOf D C V P F I R A T) (X : Cx
     pub on_record : Records (verdicts X) (G.script cx goal) lean replies
     pub again : AreAnsweredAgain (verdicts X) nodes own told verdict lean.answers
 
-module _ {I R : Type 0} (says : Verdicts R) (script : List (Reply R) → Request I R) (nodes : List (CacheNode I R)) (own : ℕ) (told : RunRecord I R) (verdict : Verdict) (r : R) where
+module _ {I R : Type 0} (says : Verdicts R) (script : List (Reply R) → Request I R) (nodes : List (CacheNode I R))
+    (own : ℕ) (told : RunRecord I R) (verdict : Verdict) (r : R) where
   -- a run that came to this result, and has no answer whose edge may not stand in the node of the run that is on record
   pub record IsLeanRun (lean : RunRecord I R) : Type 0 where
     pub came : CameTo says script lean r
@@ -79,7 +86,8 @@ module _ {I R : Type 0} (says : Verdicts R) (script : List (Reply R) → Request
 
   -- one of the answers on record has this edge, or it may stand there
   abbrev pub IsKnownEdge : Edge I → Type 0
-  IsKnownEdge e = ((a : DefiniteAnswer I) × Contains told.answers a × (a.edge ≡ e)) ⊎ IsBackedEdge says nodes own told verdict e
+  IsKnownEdge e =
+      ((a : DefiniteAnswer I) × Contains told.answers a × (a.edge ≡ e)) ⊎ IsBackedEdge says nodes own told verdict e
 
   -- the record of a run that came to this result, each edge of which may stand in the node
   pub record IsRecordFor (p : RunRecord I R) : Type 0 where

@@ -1,5 +1,6 @@
 -- Names and their numbers.
-use Rattle.std.proofs.Common.{◌≡◌, ℕ, zero, suc, ◌+◌, ◌<◌, Bool, true, false, not, cond, ◌||◌, List, [], ◌∷◌, ◌++◌, length, map, Option, Some, None, refl, ap, sym, ◌∙◌, subst, arith, inl, inr, ◌⊎◌}
+use Rattle.std.proofs.Common.{◌≡◌, ℕ, zero, suc, ◌+◌, ◌<◌, Bool, true, false, not, cond, ◌||◌, List, [], ◌∷◌, ◌++◌}
+use Rattle.std.proofs.Common.{length, map, Option, Some, None, refl, ap, sym, ◌∙◌, subst, arith, inl, inr, ◌⊎◌}
 use Rattle.std.specs.Prelude.{min, slice_get, nat_lt, ◌↔◌}
 use Rattle.std.specs.List.{AllByRecursion, IsDistinct, list_any, position, position_or_len}
 use Rattle.std.specs.Str.{bytes_eq}
@@ -32,18 +33,23 @@ or_first true b e = refl
 or_first false b e = absurd cc
 
 -- a name that has a place is among the names
-pub is_among : (names : List (List ℕ)) (name : List ℕ) (n : ℕ) → slice_get names n ≡ Some name → list_any (bytes_eq name) names ≡ true
+pub is_among : (names : List (List ℕ)) (name : List ℕ) (n : ℕ) → slice_get names n ≡ Some name
+    → list_any (bytes_eq name) names ≡ true
 is_among [] name n e = absurd cc
-is_among (x ∷ names) name zero e = or_first (bytes_eq name x) (list_any (bytes_eq name) names) (ap (bytes_eq name) (some_same x name e) ∙ own_name name)
-is_among (x ∷ names) name (suc n) e = or_second (bytes_eq name x) (list_any (bytes_eq name) names) (is_among names name n e)
+is_among (x ∷ names) name zero e = or_first (bytes_eq name x) (list_any (bytes_eq name) names)
+    (ap (bytes_eq name) (some_same x name e) ∙ own_name name)
+is_among (x ∷ names) name (suc n) e =
+    or_second (bytes_eq name x) (list_any (bytes_eq name) names) (is_among names name n e)
 
 -- a name among the names has a place
-place_first : (names : List (List ℕ)) (x name : List ℕ) (b : Bool) → bytes_eq name x ≡ b → (list_any (bytes_eq name) names ≡ true → (n : ℕ) × (slice_get names n ≡ Some name)) →
+place_first : (names : List (List ℕ)) (x name : List ℕ) (b : Bool) → bytes_eq name x ≡ b →
+    (list_any (bytes_eq name) names ≡ true → (n : ℕ) × (slice_get names n ≡ Some name)) →
     (b || list_any (bytes_eq name) names) ≡ true → (n : ℕ) × (slice_get (x ∷ names) n ≡ Some name)
 place_first names x name true e rest h = (0, ap Some (sym ((bytes_eq-Decides name x).0 e)))
 place_first names x name false e rest h = let w = rest h in (suc w.0, w.1)
 
-pub has_place : (names : List (List ℕ)) (name : List ℕ) → list_any (bytes_eq name) names ≡ true → (n : ℕ) × (slice_get names n ≡ Some name)
+pub has_place : (names : List (List ℕ)) (name : List ℕ) → list_any (bytes_eq name) names ≡ true
+    → (n : ℕ) × (slice_get names n ≡ Some name)
 has_place [] name h = absurd cc
 has_place (x ∷ names) name h = place_first names x name (bytes_eq name x) refl (has_place names name) h
 
@@ -52,24 +58,29 @@ at_end [] x n e = rw e refl
 at_end (y ∷ xs) x zero e = absurd (omega arith)
 at_end (y ∷ xs) x (suc n) e = at_end xs x n (omega arith)
 
-pub slice_get-append_left : {A : Type 0} (xs ys : List A) (n : ℕ) (x : A) → slice_get xs n ≡ Some x → slice_get (xs ++ ys) n ≡ Some x
+pub slice_get-append_left : {A : Type 0} (xs ys : List A) (n : ℕ) (x : A)
+    → slice_get xs n ≡ Some x → slice_get (xs ++ ys) n ≡ Some x
 slice_get-append_left [] ys n x e = absurd cc
 slice_get-append_left (y ∷ xs) ys zero x e = e
 slice_get-append_left (y ∷ xs) ys (suc n) x e = slice_get-append_left xs ys n x e
 
 -- what has a place in a longer list: it had it before, or it is the new one
-pub place_in_longer : {A : Type 0} (xs : List A) (y : A) (n : ℕ) (x : A) → slice_get (xs ++ y ∷ []) n ≡ Some x → (slice_get xs n ≡ Some x) ⊎ ((n ≡ length xs) × (x ≡ y))
+pub place_in_longer : {A : Type 0} (xs : List A) (y : A) (n : ℕ) (x : A) → slice_get (xs ++ y ∷ []) n ≡ Some x
+    → (slice_get xs n ≡ Some x) ⊎ ((n ≡ length xs) × (x ≡ y))
 place_in_longer [] y zero x e = inr (omega arith, sym (some_same y x e))
 place_in_longer [] y (suc n) x e = absurd cc
 place_in_longer (z ∷ xs) y zero x e = inl e
-place_in_longer (z ∷ xs) y (suc n) x e = elim (place_in_longer xs y n x e) [ inl w ↦ inl w | inr w ↦ inr (omega (arith, w.0), w.1) ]
+place_in_longer (z ∷ xs) y (suc n) x e =
+    elim (place_in_longer xs y n x e) [ inl w ↦ inl w | inr w ↦ inr (omega (arith, w.0), w.1) ]
 
 -- interning a name that is there adds nothing
-pub with_known : (names : List (List ℕ)) (name : List ℕ) (n : ℕ) → slice_get names n ≡ Some name → names ≡ with_name names name
+pub with_known : (names : List (List ℕ)) (name : List ℕ) (n : ℕ)
+    → slice_get names n ≡ Some name → names ≡ with_name names name
 with_known names name n e = sym (rw (is_among names name n e) refl)
 
 -- interning another one adds it
-with_new : (names : List (List ℕ)) (name : List ℕ) → ((n : ℕ) → slice_get names n ≡ Some name → ⊥) → names ++ name ∷ [] ≡ with_name names name
+with_new : (names : List (List ℕ)) (name : List ℕ) → ((n : ℕ) → slice_get names n ≡ Some name → ⊥)
+    → names ++ name ∷ [] ≡ with_name names name
 with_new names name none = elim (cases_Bool (list_any (bytes_eq name) names)) [
   | inl w ↦ absurd (let p = has_place names name w in none p.0 p.1)
   | inr w ↦ sym (rw w refl)
@@ -88,57 +99,80 @@ differs a b other = elim (cases_Bool (bytes_eq b a)) [
 ]
 
 -- a name that has a place behind another one is not that
-other_behind : (key : Name) (keys : List Name) (name : List ℕ) (n : ℕ) → AllByRecursion (λ other. same_name key other ≡ false) keys → slice_get (map text_of keys) n ≡ Some name → is_named name key ≡ false
+other_behind : (key : Name) (keys : List Name) (name : List ℕ) (n : ℕ)
+    → AllByRecursion (λ other. same_name key other ≡ false) keys
+    → slice_get (map text_of keys) n ≡ Some name → is_named name key ≡ false
 other_behind key [] name n apart e = absurd cc
-other_behind key (x ∷ keys) name zero apart e = differs (text_of key) name (subst (λ text. bytes_eq (text_of key) text ≡ false) (some_same (text_of x) name e) apart.0)
+other_behind key (x ∷ keys) name zero apart e = differs (text_of key) name
+    (subst (λ text. bytes_eq (text_of key) text ≡ false) (some_same (text_of x) name e) apart.0)
 other_behind key (x ∷ keys) name (suc n) apart e = other_behind key keys name n apart.1 e
 
 -- where no two names are the same, the first place of a name is the only one
-first_place : (keys : List Name) (name : List ℕ) (n : ℕ) → IsDistinct same_name keys → slice_get (map text_of keys) n ≡ Some name → position_or_len (is_named name) keys ≡ n
+first_place : (keys : List Name) (name : List ℕ) (n : ℕ) → IsDistinct same_name keys
+    → slice_get (map text_of keys) n ≡ Some name → position_or_len (is_named name) keys ≡ n
 first_place [] name n apart e = absurd cc
-first_place (x ∷ keys) name zero apart e = rw ((bytes_eq-Decides name (text_of x)).1 (sym (some_same (text_of x) name e))) refl
+first_place (x ∷ keys) name zero apart e =
+    rw ((bytes_eq-Decides name (text_of x)).1 (sym (some_same (text_of x) name e))) refl
 first_place (x ∷ keys) name (suc n) apart e =
     let behind = first_place keys name n (IsDistinct-tail same_name x keys apart) e in
     rw (other_behind x keys name n (IsDistinct-head same_name x keys apart) e) (omega (arith, behind))
 
 -- what is found has the name
-found : (keys : List Name) (name : List ℕ) (n : ℕ) → position_or_len (is_named name) keys ≡ n → n < length keys → slice_get (map text_of keys) n ≡ Some name
+found : (keys : List Name) (name : List ℕ) (n : ℕ) → position_or_len (is_named name) keys ≡ n → n < length keys
+    → slice_get (map text_of keys) n ≡ Some name
 found [] name n is within = absurd (omega (arith, within))
 found (x ∷ keys) name n is within = by (found keys name) (is_named name x) refl n is within
   where
-    by : ((m : ℕ) → position_or_len (is_named name) keys ≡ m → m < length keys → slice_get (map text_of keys) m ≡ Some name) → (passes : Bool) → is_named name x ≡ passes → (n : ℕ) → position_or_len (is_named name) (x ∷ keys) ≡ n → n < length (x ∷ keys) → slice_get (map text_of (x ∷ keys)) n ≡ Some name
+    by : ((m : ℕ) → position_or_len (is_named name) keys ≡ m → m < length keys
+        → slice_get (map text_of keys) m ≡ Some name)
+        → (passes : Bool) → is_named name x ≡ passes → (n : ℕ) → position_or_len (is_named name) (x ∷ keys) ≡ n
+        → n < length (x ∷ keys) → slice_get (map text_of (x ∷ keys)) n ≡ Some name
     by rest true same zero is within = ap Some (sym ((bytes_eq-Decides name (text_of x)).0 same))
-    by rest true same (suc n) is within = let none : 0 ≡ suc n = subst (λ b. cond (not b) (1 + position_or_len (is_named name) keys) 0 ≡ suc n) same is in absurd cc
-    by rest false other zero is within = let some : 1 + position_or_len (is_named name) keys ≡ 0 = subst (λ b. cond (not b) (1 + position_or_len (is_named name) keys) 0 ≡ 0) other is in absurd (omega (arith, some))
+    by rest true same (suc n) is within =
+        let none : 0 ≡ suc n = subst (λ b. cond (not b) (1 + position_or_len (is_named name) keys) 0 ≡ suc n) same is in
+        absurd cc
+    by rest false other zero is within = let some : 1 + position_or_len (is_named name) keys ≡ 0 =
+        subst (λ b. cond (not b) (1 + position_or_len (is_named name) keys) 0 ≡ 0) other is in
+        absurd (omega (arith, some))
     by rest false other (suc n) is within =
-        let behind : 1 + position_or_len (is_named name) keys ≡ suc n = subst (λ b. cond (not b) (1 + position_or_len (is_named name) keys) 0 ≡ suc n) other is in
+        let behind : 1 + position_or_len (is_named name) keys ≡ suc n =
+        subst (λ b. cond (not b) (1 + position_or_len (is_named name) keys) 0 ≡ suc n) other is in
         rest n (omega (arith, behind)) (omega (arith, within))
 
 -- a name is found at its place, and at no other
-pub number_is : (keys : List Name) (name : List ℕ) → IsDistinct same_name keys → (n : ℕ) → (position (is_named name) keys ≡ Some n) ↔ (slice_get (map text_of keys) n ≡ Some name)
-number_is keys name apart n = (λ is. there (nat_lt (position_or_len (is_named name) keys) (length keys)) refl is, λ at. here at)
+pub number_is : (keys : List Name) (name : List ℕ) → IsDistinct same_name keys → (n : ℕ)
+    → (position (is_named name) keys ≡ Some n) ↔ (slice_get (map text_of keys) n ≡ Some name)
+number_is keys name apart n =
+    (λ is. there (nat_lt (position_or_len (is_named name) keys) (length keys)) refl is, λ at. here at)
   where
-    there : (within : Bool) → nat_lt (position_or_len (is_named name) keys) (length keys) ≡ within → cond within (Some (position_or_len (is_named name) keys)) None ≡ Some n → slice_get (map text_of keys) n ≡ Some name
-    there true within is = let same : position_or_len (is_named name) keys ≡ n = cc in found keys name n same (grind (arith, nat_tests))
+    there : (within : Bool) → nat_lt (position_or_len (is_named name) keys) (length keys) ≡ within
+        → cond within (Some (position_or_len (is_named name) keys)) None ≡ Some n
+        → slice_get (map text_of keys) n ≡ Some name
+    there true within is =
+        let same : position_or_len (is_named name) keys ≡ n = cc in found keys name n same (grind (arith, nat_tests))
     there false within is = absurd cc
 
     here : slice_get (map text_of keys) n ≡ Some name → position (is_named name) keys ≡ Some n
     here at =
         let first = first_place keys name n apart at in
-        let within : n < length keys = subst (λ m. n < m) (length-map keys text_of) (slice_get_within (map text_of keys) n name at) in
+        let within : n < length keys =
+        subst (λ m. n < m) (length-map keys text_of) (slice_get_within (map text_of keys) n name at) in
         let test : nat_lt (position_or_len (is_named name) keys) (length keys) ≡ true = grind (arith, nat_tests) in
         rw test (ap Some first)
 
 -- the number of a name says where it stands
-pub number_tells : (number : Name → Option ℕ) (keys : List Name) (key : Name) (name : List ℕ) (found : Option ℕ) → AreNumbered number keys → text_of key ≡ name → found ≡ number key →
+pub number_tells : (number : Name → Option ℕ) (keys : List Name) (key : Name) (name : List ℕ) (found : Option ℕ) →
+    AreNumbered number keys → text_of key ≡ name → found ≡ number key →
     (n : ℕ) → (found ≡ Some n) ↔ (slice_get (map text_of keys) n ≡ Some name)
 number_tells number keys key name found numbered text is n =
     let at = number_is keys name numbered.distinct n in
-    let place : found ≡ position (is_named name) keys = is ∙ (numbered.agrees key ∙ ap (λ text. position (is_named text) keys) text) in
+    let place : found ≡ position (is_named name) keys =
+    is ∙ (numbered.agrees key ∙ ap (λ text. position (is_named text) keys) text) in
     (λ some. at.0 (sym place ∙ some), λ there. place ∙ at.1 there)
 
 -- no name is longer than a name may be
-pub none_is_longer : (keys : List Name) (name : List ℕ) (n : ℕ) → 16 < length name → slice_get (map text_of keys) n ≡ Some name → ⊥
+pub none_is_longer : (keys : List Name) (name : List ℕ) (n : ℕ) → 16 < length name
+    → slice_get (map text_of keys) n ≡ Some name → ⊥
 none_is_longer [] name n long at = absurd cc
 none_is_longer (x ∷ keys) name zero long at =
     let text : text_of x ≡ name = some_same (text_of x) name at in
@@ -147,7 +181,8 @@ none_is_longer (x ∷ keys) name zero long at =
 none_is_longer (x ∷ keys) name (suc n) long at = none_is_longer keys name n long at
 
 -- a name without a place is not among the names
-not_among : (keys : List Name) (key : Name) → ((n : ℕ) → slice_get (map text_of keys) n ≡ Some (text_of key) → ⊥) → list_any (same_name key) keys ≡ false
+not_among : (keys : List Name) (key : Name) → ((n : ℕ) → slice_get (map text_of keys) n ≡ Some (text_of key) → ⊥)
+    → list_any (same_name key) keys ≡ false
 not_among [] key none = refl
 not_among (x ∷ keys) key none = elim (cases_Bool (same_name key x)) [
   | inl same ↦ absurd (none 0 (ap Some (sym ((bytes_eq-Decides (text_of key) (text_of x)).0 same))))
@@ -155,21 +190,27 @@ not_among (x ∷ keys) key none = elim (cases_Bool (same_name key x)) [
 ]
 
 -- the first place at which p passes, in a list with one more element
-position_push_new : {A : Type 0} (p : A → Bool) (xs : List A) (y : A) → position p xs ≡ None → p y ≡ true → position p (xs ++ y ∷ []) ≡ Some (length xs)
-position_push_new p xs y none passes = grind (arith, nat_tests, position_or_len_push, prefix_len-le-length, length-append)
+position_push_new : {A : Type 0} (p : A → Bool) (xs : List A) (y : A) → position p xs ≡ None → p y ≡ true
+    → position p (xs ++ y ∷ []) ≡ Some (length xs)
+position_push_new p xs y none passes =
+    grind (arith, nat_tests, position_or_len_push, prefix_len-le-length, length-append)
 
-position_push_old : {A : Type 0} (p : A → Bool) (xs : List A) (y : A) → p y ≡ false → position p (xs ++ y ∷ []) ≡ position p xs
+position_push_old : {A : Type 0} (p : A → Bool) (xs : List A) (y : A) → p y ≡ false
+    → position p (xs ++ y ∷ []) ≡ position p xs
 position_push_old p xs y fails = grind (arith, nat_tests, position_or_len_push, prefix_len-le-length, length-append)
 
 -- one more name gets the next number
-pub numbered_push : (number number' : Name → Option ℕ) (keys all : List Name) (key : Name) (n : ℕ) → AreNumbered number keys → ((m : ℕ) → slice_get (map text_of keys) m ≡ Some (text_of key) → ⊥) →
-    n ≡ length keys → all ≡ keys ++ key ∷ [] → ((q : Name) → number' q ≡ cond (same_name key q) (Some n) (number q)) → AreNumbered number' all
+pub numbered_push : (number number' : Name → Option ℕ) (keys all : List Name) (key : Name) (n : ℕ) →
+    AreNumbered number keys → ((m : ℕ) → slice_get (map text_of keys) m ≡ Some (text_of key) → ⊥) →
+    n ≡ length keys → all ≡ keys ++ key ∷ [] →
+    ((q : Name) → number' q ≡ cond (same_name key q) (Some n) (number q)) → AreNumbered number' all
 numbered_push number number' keys all key n numbered none is_length is_all at = rw is_all (record {
   agrees = λ q. agrees q (same_name key q) refl;
   distinct = IsDistinct-push (on_equiv text_of nat_list_eq_equiv) keys key numbered.distinct (not_among keys key none);
 })
   where
-    absent : (place : Option ℕ) → position (is_named (text_of key)) keys ≡ place → position (is_named (text_of key)) keys ≡ None
+    absent : (place : Option ℕ) → position (is_named (text_of key)) keys ≡ place
+        → position (is_named (text_of key)) keys ≡ None
     absent None is = is
     absent (Some m) is = absurd (none m ((number_is keys (text_of key) numbered.distinct m).0 is))
 
@@ -179,8 +220,11 @@ numbered_push number number' keys all key n numbered none is_length is_all at = 
         let nowhere = subst (λ text. position (is_named text) keys ≡ None) same (absent _ refl) in
         let passes : is_named (text_of q) key ≡ true = (bytes_eq-Decides (text_of q) (text_of key)).1 (sym same) in
         at q ∙ rw is (ap Some is_length ∙ sym (position_push_new (is_named (text_of q)) keys key nowhere passes))
-    agrees q false is = at q ∙ rw is (numbered.agrees q ∙ sym (position_push_old (is_named (text_of q)) keys key (differs (text_of key) (text_of q) is)))
+    agrees q false is = at q ∙ rw is (numbered.agrees q
+        ∙ sym (position_push_old (is_named (text_of q)) keys key (differs (text_of key) (text_of q) is)))
 
 -- the texts of the names with one more
-pub texts_grown : (keys all : List Name) (key : Name) (name : List ℕ) → text_of key ≡ name → all ≡ keys ++ key ∷ [] → ((n : ℕ) → slice_get (map text_of keys) n ≡ Some name → ⊥) → map text_of all ≡ with_name (map text_of keys) name
-texts_grown keys all key name text is none = ap (map text_of) is ∙ (map-append text_of keys (key ∷ []) ∙ (ap (λ t. map text_of keys ++ t ∷ []) text ∙ with_new (map text_of keys) name none))
+pub texts_grown : (keys all : List Name) (key : Name) (name : List ℕ) → text_of key ≡ name → all ≡ keys ++ key ∷ []
+    → ((n : ℕ) → slice_get (map text_of keys) n ≡ Some name → ⊥) → map text_of all ≡ with_name (map text_of keys) name
+texts_grown keys all key name text is none = ap (map text_of) is ∙ (map-append text_of keys (key ∷ [])
+    ∙ (ap (λ t. map text_of keys ++ t ∷ []) text ∙ with_new (map text_of keys) name none))

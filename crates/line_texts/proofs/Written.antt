@@ -1,5 +1,6 @@
 -- What was written of lines, and what waits.
-use Rattle.std.proofs.Common.{◌≡◌, ◌∙◌, ℕ, ◌+◌, List, ◌++◌, Option, Some, None, Result, Ok, Err, ap, append_assoc, length, refl, subst, sym, take}
+use Rattle.std.proofs.Common.{◌≡◌, ◌∙◌, ℕ, ◌+◌, List, ◌++◌, Option, Some, None, Result, Ok, Err, ap, append_assoc}
+use Rattle.std.proofs.Common.{length, refl, subst, sym, take}
 use Rattle.std.specs.Prelude.{OnErr}
 use Rattle.std.proofs.KnownBytes.{Appends-trans}
 use Rattle.std.proofs.Math.Seq.{take-append-add, take-length}
@@ -22,7 +23,8 @@ pub whole_begins : (old new : Option (List ℕ)) (bytes : List ℕ) → Appends 
 whole_begins old new bytes h = (length bytes, subst (λ all. Appends old new all) (sym (take-length bytes)) h)
 
 -- one line more waits
-pub waits_more : (old new : Option (List ℕ)) (lines waits line : List ℕ) → Passes old new lines waits → Passes old new (lines ++ line) (waits ++ line)
+pub waits_more : (old new : Option (List ℕ)) (lines waits line : List ℕ) → Passes old new lines waits
+    → Passes old new (lines ++ line) (waits ++ line)
 waits_more old new lines waits line h = record {
   bytes = h.bytes;
   written = h.written;
@@ -41,9 +43,14 @@ module _ (old mid new : Option (List ℕ)) (lines waits : List ℕ) (so_far : Pa
   -- a beginning of what waited was written
   pub begins_more : AppendsBeginning mid new waits → AppendsBeginning old new lines
   begins_more more =
-      let front : take (length so_far.bytes + more.0) lines ≡ so_far.bytes ++ take more.0 waits = ap (take (length so_far.bytes + more.0)) so_far.others ∙ take-append-add so_far.bytes waits more.0 in
-      (length so_far.bytes + more.0, subst (λ bytes. Appends old new bytes) (sym front) (Appends-trans old mid new so_far.bytes (take more.0 waits) so_far.written more.1))
+      let front : take (length so_far.bytes + more.0) lines ≡ so_far.bytes ++ take more.0 waits =
+      ap (take (length so_far.bytes + more.0)) so_far.others ∙ take-append-add so_far.bytes waits more.0 in (
+        length so_far.bytes + more.0,
+        subst (λ bytes. Appends old new bytes) (sym front)
+            (Appends-trans old mid new so_far.bytes (take more.0 waits) so_far.written more.1),
+      )
 
   -- all that waited was written
   pub all_written : Appends mid new waits → Appends old new lines
-  all_written h = subst (λ bytes. Appends old new bytes) (sym so_far.others) (Appends-trans old mid new so_far.bytes waits so_far.written h)
+  all_written h = subst (λ bytes. Appends old new bytes) (sym so_far.others)
+      (Appends-trans old mid new so_far.bytes waits so_far.written h)

@@ -18,9 +18,10 @@ pub record AnsweredQuestion (Q C : Type 0) : Type 0 where
   pub came : C
 
 -- `line_of` is the line of a question that was answered, and `Hold` what is true of the answers so far.
-module _ {Q C : Type 0} (line_of : AnsweredQuestion Q C → List ℕ) (is_fine : C → Bool) (Hold : List (AnsweredQuestion Q C) → Type 0) where
-  -- The questions, all of them and in this order, were answered, and this holds of the answers. The lines are theirs, and `all_fine`
-  -- says that what each came to is fine.
+module _ {Q C : Type 0} (line_of : AnsweredQuestion Q C → List ℕ) (is_fine : C → Bool)
+    (Hold : List (AnsweredQuestion Q C) → Type 0) where
+  -- The questions, all of them and in this order, were answered, and this holds of the answers. The lines are theirs,
+  -- and `all_fine` says that what each came to is fine.
   pub record AreTold (questions : List Q) (lines : List ℕ) (all_fine : Bool) : Type 0 where
     pub answered : List (AnsweredQuestion Q C)
     pub are_questions : map (λ a. a.question) answered ≡ questions

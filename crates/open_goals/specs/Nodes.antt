@@ -4,7 +4,8 @@ use Rattle.std.specs.Option.{IfSome}
 use Rattle.open_goals.specs.Below.{NodeId, StackEntry}
 use Rattle.goal_changes.specs.OpenGoal.{OpenGoal}
 
--- its run's own, the one to which the answers of its cycles lead, and those of its run's definite answers, also of those in ignored candidates
+-- its run's own, the one to which the answers of its cycles lead, and those of its run's definite answers, also of
+-- those in ignored candidates
 pub record HasNodes {X F I R A T : Type 0} (nodes : List NodeId) (s : OpenGoal X F I R A T) : Type 0 where
   pub own : Contains nodes s.1.node
   pub cycles : IfSome s.0.state.node (Contains nodes)

@@ -144,7 +144,8 @@ fn ignore_head<X: Cx>(
     head: StackDepth,
     usages: HeadUsages,
 )
-    requires counted { IsSomeAnd (usages_at parent state.old head) (λ counts. Covers counts usages) }
+    requires counted { IsSomeAnd (usages_at parent state.old head)
+        (λ counts. Covers counts usages) }
     ensures { state.new ≡ without_head parent head usages state.old }
 {
     if head == parent {

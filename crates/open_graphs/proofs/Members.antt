@@ -1,8 +1,10 @@
 -- Members of lists: of a list with one more, of one that is mapped, and of one that is filtered.
-use Rattle.std.proofs.Common.{◌≡◌, zero, suc, Bool, true, List, [], ◌∷◌, map, filter, Contains, ◌⊎◌, inl, inr, refl, sym, ap, ◌∙◌, subst, arith}
+use Rattle.std.proofs.Common.{◌≡◌, zero, suc, Bool, true, List, [], ◌∷◌, map, filter, Contains, ◌⊎◌, inl, inr, refl}
+use Rattle.std.proofs.Common.{sym, ap, ◌∙◌, subst, arith}
 use Rattle.std.proofs.lemmas.Bool.{cases_Bool}
 use Rattle.std.proofs.lemmas.List.{get_or-map, length-map}
-use Rattle.std.proofs.lemmas.List.Elements.{All-contains, All-contains_itself, All-filter, All-map, All-weaker, filter_passes}
+use Rattle.std.proofs.lemmas.List.Elements.{All-contains, All-contains_itself, All-filter, All-map}
+use Rattle.std.proofs.lemmas.List.Elements.{All-weaker, filter_passes}
 
 module _ {A : Type 0} where
   pub contains_later : (x first : A) (rest : List A) → Contains rest x → Contains (first ∷ rest) x
@@ -38,5 +40,6 @@ module _ {A B : Type 0} (f : A → B) where
   pub Contains-map : (xs : List A) (y : B) → Contains (map f xs) y → (x : A) × Contains xs x × (f x ≡ y)
   Contains-map xs y there =
       let P : B → Type 0 = λ y. (x : A) × Contains xs x × (f x ≡ y) in
-      let all = All-map P f xs (All-weaker (Contains xs) (λ x. P (f x)) (λ x has. (x, has, refl)) xs (All-contains_itself xs)) in
+      let all =
+      All-map P f xs (All-weaker (Contains xs) (λ x. P (f x)) (λ x has. (x, has, refl)) xs (All-contains_itself xs)) in
       All-contains P (map f xs) y all there

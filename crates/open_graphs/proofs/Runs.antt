@@ -1,6 +1,8 @@
 -- Runs of a goal on the stack.
-use Rattle.std.proofs.Common.{◌≡◌, ◌≢◌, ℕ, ◌<◌, List, [], ◌∷◌, ◌++◌, Some, None, length, slice_get, arith, refl, ap, sym, subst, ◌∙◌, inl, inr, length-append, false}
-use Rattle.open_graphs.specs.Words.{Verdict, Neither, Edge, Node, Unfinished, Finished, Grown, Entry, IsLeaf, path_kind, Heads, Use, Running, IsStack, Answered, Again, Anew, Without, IsClosedGraph, UsesNo}
+use Rattle.std.proofs.Common.{◌≡◌, ◌≢◌, ℕ, ◌<◌, List, [], ◌∷◌, ◌++◌, Some, None, length, slice_get, arith, refl, ap}
+use Rattle.std.proofs.Common.{sym, subst, ◌∙◌, inl, inr, length-append, false}
+use Rattle.open_graphs.specs.Words.{Verdict, Neither, Edge, Node, Unfinished, Finished, Grown, Entry, IsLeaf, path_kind}
+use Rattle.open_graphs.specs.Words.{Heads, Use, Running, IsStack, Answered, Again, Anew, Without, IsClosedGraph, UsesNo}
 use Rattle.open_graphs.proofs.Lists.{get_left, get_end, get_cases}
 use Rattle.open_graphs.proofs.Keep.{append_grows, finish_grows, growth_keeps_use, heads_keep_use}
 use Rattle.open_graphs.proofs.Finish.{finish_gives_use}
@@ -8,7 +10,9 @@ use Rattle.open_graphs.proofs.Store.{included}
 use Rattle.open_graphs.proofs.Closed.{closed_is_graph}
 
 -- the entries of a stack with one more, of another node in a longer list
-pub push_is_stack : (nodes : List Node) (stack : List Entry) (entry : Entry) → IsStack nodes stack → entry.node < length (nodes ++ Unfinished ∷ []) → ¬ IsLeaf stack entry.node → IsStack (nodes ++ Unfinished ∷ []) (stack ++ entry ∷ [])
+pub push_is_stack : (nodes : List Node) (stack : List Entry) (entry : Entry) → IsStack nodes stack
+    → entry.node < length (nodes ++ Unfinished ∷ []) → ¬ IsLeaf stack entry.node
+    → IsStack (nodes ++ Unfinished ∷ []) (stack ++ entry ∷ [])
 push_is_stack nodes stack entry s bound new = record {
   in_list = λ depth e at. elim (get_cases stack entry depth e at) [
     | inl at' ↦ let h = s.in_list depth e at' in omega (arith, length-append nodes (Unfinished ∷ []))
@@ -26,10 +30,12 @@ push_is_stack nodes stack entry s bound new = record {
   ];
 }
 
-pub pop_is_stack : (nodes : List Node) (below : List Entry) (top : Entry) → IsStack nodes (below ++ top ∷ []) → IsStack nodes below
+pub pop_is_stack : (nodes : List Node) (below : List Entry) (top : Entry)
+    → IsStack nodes (below ++ top ∷ []) → IsStack nodes below
 pop_is_stack nodes below top s = record {
   in_list = λ depth e at. s.in_list depth e (get_left below (top ∷ []) depth e at);
-  distinct = λ i j x y at at' same. s.distinct i j x y (get_left below (top ∷ []) i x at) (get_left below (top ∷ []) j y at') same;
+  distinct = λ i j x y at at' same.
+      s.distinct i j x y (get_left below (top ∷ []) i x at) (get_left below (top ∷ []) j y at') same;
 }
 
 pub not_leaf : (nodes : List Node) (stack : List Entry) → IsStack nodes stack → ¬ IsLeaf stack (length nodes)
@@ -39,7 +45,8 @@ not_leaf nodes stack s l = let h = s.in_list l.0 l.1 l.2 in let e = l.3 in absur
 pub first_run_starts :
     (nodes : List Node) (stack : List Entry) (step : ℕ) (heads : Heads)
     → IsStack nodes stack
-    → Running (nodes ++ Unfinished ∷ []) stack (record { step = step; provisional = None; node = length nodes }) (length nodes) (λ verdict. []) heads heads
+    → Running (nodes ++ Unfinished ∷ []) stack (record { step = step; provisional = None; node = length nodes })
+    (length nodes) (λ verdict. []) heads heads
     × IsStack (nodes ++ Unfinished ∷ []) (stack ++ record { step = step; provisional = None; node = length nodes } ∷ [])
 first_run_starts nodes stack step heads s = (
   record {
@@ -50,7 +57,8 @@ first_run_starts nodes stack step heads s = (
     still = included heads;
     answered = λ verdict i edge e. absurd (cc);
   },
-  push_is_stack nodes stack (record { step = step; provisional = None; node = length nodes }) s (omega (arith, length-append nodes (Unfinished ∷ []))) (not_leaf nodes stack s),
+  push_is_stack nodes stack (record { step = step; provisional = None; node = length nodes }) s
+      (omega (arith, length-append nodes (Unfinished ∷ []))) (not_leaf nodes stack s),
 )
 
 -- A run goes on while other nodes are appended and finished.
@@ -63,19 +71,32 @@ growth_keeps_running before after below top own edges heads_before heads grown u
   unfinished = unfinished;
   lower = r.lower;
   which_run = r.which_run;
-  earlier = λ verdict definite e. growth_keeps_use before after verdict below (path_kind below top.step) 0 top.node heads_before grown (r.earlier verdict definite e);
+  earlier = λ verdict definite e. growth_keeps_use before after verdict below (path_kind below top.step) 0 top.node
+      heads_before grown (r.earlier verdict definite e);
   still = r.still;
   answered = λ verdict i edge e. let h = r.answered verdict i edge e in
-      record { answer = h.answer; used = growth_keeps_use before after verdict (below ++ top ∷ []) (path_kind (below ++ top ∷ []) edge.kind) edge.kind edge.target h.answer grown h.used; among = h.among };
+      record {
+        answer = h.answer;
+        used = growth_keeps_use before after verdict (below ++ top ∷ []) (path_kind (below ++ top ∷ []) edge.kind)
+            edge.kind edge.target h.answer grown h.used;
+        among = h.among;
+      };
 }
 
-pub answered_grows : (nodes : List Node) (top : Entry) (own : ℕ) (edges : Verdict → List Edge) (verdict : Verdict) {later : List Node} {a : ℕ} → slice_get nodes own ≡ Some Unfinished → Answered nodes top own edges verdict later a → Grown nodes later
-answered_grows nodes top own edges verdict unfinished (Anew ne) = finish_grows nodes own (Finished verdict (edges verdict)) unfinished
+pub answered_grows : (nodes : List Node) (top : Entry) (own : ℕ) (edges : Verdict → List Edge)
+    (verdict : Verdict) {later : List Node} {a : ℕ}
+    → slice_get nodes own ≡ Some Unfinished → Answered nodes top own edges verdict later a → Grown nodes later
+answered_grows nodes top own edges verdict unfinished (Anew ne) =
+    finish_grows nodes own (Finished verdict (edges verdict)) unfinished
 answered_grows nodes top own edges verdict unfinished _ = λ b v es h. h
 
-answered_use : (nodes : List Node) (below : List Entry) (top : Entry) (own : ℕ) (edges : Verdict → List Edge) (heads_before heads : Heads) (verdict : Verdict) {later : List Node} {a : ℕ} → verdict ≢ Neither → Answered nodes top own edges verdict later a → Running nodes below top own edges heads_before heads → Use later verdict below (path_kind below top.step) 0 a heads
+answered_use : (nodes : List Node) (below : List Entry) (top : Entry) (own : ℕ) (edges : Verdict → List Edge)
+    (heads_before heads : Heads) (verdict : Verdict) {later : List Node} {a : ℕ} → verdict ≢ Neither
+    → Answered nodes top own edges verdict later a → Running nodes below top own edges heads_before heads
+    → Use later verdict below (path_kind below top.step) 0 a heads
 answered_use nodes below top own edges heads_before heads verdict definite (Again e) r =
-    heads_keep_use nodes verdict below (path_kind below top.step) (path_kind below top.step) 0 top.node heads_before heads r.still (λ d p c h. refl) (r.earlier verdict definite e)
+    heads_keep_use nodes verdict below (path_kind below top.step) (path_kind below top.step) 0 top.node heads_before
+    heads r.still (λ d p c h. refl) (r.earlier verdict definite e)
 answered_use nodes below top own edges heads_before heads verdict definite (Anew ne) r =
     finish_gives_use nodes verdict below top own (edges verdict) heads r.unfinished r.lower
     (elim r.which_run [ inl first ↦ inl first | inr later ↦ inr (later.0, later.1, ne) ])
@@ -86,18 +107,23 @@ answered_use nodes below top own edges heads_before heads verdict definite (With
 pub run_gives_use :
     (nodes : List Node) (below : List Entry) (top : Entry) (own : ℕ) (edges : Verdict → List Edge)
     (heads_before heads : Heads) (verdict : Verdict) (later : List Node) (a : ℕ)
-    → verdict ≢ Neither → Answered nodes top own edges verdict later a → Running nodes below top own edges heads_before heads
+    → verdict ≢ Neither → Answered nodes top own edges verdict later a
+    → Running nodes below top own edges heads_before heads
     → Grown nodes later × Use later verdict below (path_kind below top.step) 0 a heads
-run_gives_use nodes below top own edges heads_before heads verdict later a definite answer r =
-    (answered_grows nodes top own edges verdict r.unfinished answer, answered_use nodes below top own edges heads_before heads verdict definite answer r)
+run_gives_use nodes below top own edges heads_before heads verdict later a definite answer r = (
+  answered_grows nodes top own edges verdict r.unfinished answer,
+  answered_use nodes below top own edges heads_before heads verdict definite answer r,
+)
 
 -- The goal is then run again under this result, with a new node and no answers.
 pub next_run_starts :
     (nodes : List Node) (below : List Entry) (top : Entry) (verdict : Verdict) (a : ℕ) (heads : Heads)
     → IsStack nodes (below ++ top ∷ []) → a < length nodes → ¬ IsLeaf below a
     → (verdict ≢ Neither → Use nodes verdict below (path_kind below top.step) 0 a heads)
-    → Running (nodes ++ Unfinished ∷ []) below (record { step = top.step; provisional = Some verdict; node = a }) (length nodes) (λ verdict. []) heads heads
-    × IsStack (nodes ++ Unfinished ∷ []) (below ++ record { step = top.step; provisional = Some verdict; node = a } ∷ [])
+    → Running (nodes ++ Unfinished ∷ []) below (record { step = top.step; provisional = Some verdict; node = a })
+    (length nodes) (λ verdict. []) heads heads
+    × IsStack (nodes ++ Unfinished ∷ [])
+    (below ++ record { step = top.step; provisional = Some verdict; node = a } ∷ [])
 next_run_starts nodes below top verdict a heads s bound lower u =
     let under : IsStack nodes below = pop_is_stack nodes below top s in (
       record {
@@ -106,11 +132,13 @@ next_run_starts nodes below top verdict a heads s bound lower u =
         which_run = inr (λ e. absurd (omega arith), λ e. absurd (cc));
         earlier = λ v definite e. let same : verdict ≡ v = cc in
             subst (λ x. Use (nodes ++ Unfinished ∷ []) x below (path_kind below top.step) 0 a heads) same
-            (growth_keeps_use nodes (nodes ++ Unfinished ∷ []) verdict below (path_kind below top.step) 0 a heads (append_grows nodes) (u (subst (λ x. x ≢ Neither) (sym same) definite)));
+            (growth_keeps_use nodes (nodes ++ Unfinished ∷ []) verdict below (path_kind below top.step) 0 a heads
+            (append_grows nodes) (u (subst (λ x. x ≢ Neither) (sym same) definite)));
         still = included heads;
         answered = λ v i edge e. absurd (cc);
       },
-      push_is_stack nodes below (record { step = top.step; provisional = Some verdict; node = a }) under (omega (arith, length-append nodes (Unfinished ∷ []))) lower,
+      push_is_stack nodes below (record { step = top.step; provisional = Some verdict; node = a }) under
+          (omega (arith, length-append nodes (Unfinished ∷ []))) lower,
     )
 
 -- A use without heads may be used under any stack entries' path kinds and with any heads.

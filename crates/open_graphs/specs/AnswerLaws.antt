@@ -1,5 +1,5 @@
--- The theorems on the answers that a run gets. Each of them keeps a sound state sound, where the heads of the newest entry
--- take in those of the answer, with the step in front of their paths.
+-- The theorems on the answers that a run gets. Each of them keeps a sound state sound, where the heads of the newest
+-- entry take in those of the answer, with the step in front of their paths.
 use Rattle.std.specs.Prelude.{◌≡◌, ℕ, max, ◌<◌, List, [], ◌∷◌, ◌++◌, slice_get, length, Some, cond}
 use Rattle.open_graphs.specs.Graph.{Verdict, Edge, Node, same_verdict}
 use Rattle.open_graphs.specs.Stack.{Entry, Accepts, path_kind, DistinctNodes}
@@ -14,7 +14,8 @@ with_edge edges verdict edge other = cond (same_verdict verdict other) (edges ot
 -- The newest run gets one more answer with a verdict, over an edge.
 abbrev pub OneAnswerKeepsSound : Type 0
 OneAnswerKeepsSound =
-    (nodes : List Node) (f : RunningGoal) (frames : List RunningGoal) (provisional : List ProvisionalEntry) (final : List Final)
+    (nodes : List Node) (f : RunningGoal) (frames : List RunningGoal)
+    (provisional : List ProvisionalEntry) (final : List Final)
     (verdict : Verdict) (edge : Edge) (heads : Heads)
     → Includes f.heads heads → IsAnsweredEdge nodes verdict (stack_of frames) f.entry edge heads
     → IsSoundState nodes (f ∷ frames) provisional final

@@ -1,6 +1,7 @@
--- The rule by which the provisional entries are rebased when the newest goal is popped, and that each entry with a verdict
--- that it leaves is one of `AfterPop`. A path of no step is none of the paths here.
-use Rattle.std.specs.Prelude.{◌≡◌, ◌≢◌, ℕ, max, ◌≤◌, ◌<◌, List, [], ◌∷◌, ◌++◌, Option, Some, None, length, ◌⊎◌, Bool, IsTrue}
+-- The rule by which the provisional entries are rebased when the newest goal is popped, and that each entry with a
+-- verdict that it leaves is one of `AfterPop`. A path of no step is none of the paths here.
+use Rattle.std.specs.Prelude.{◌≡◌, ◌≢◌, ℕ, max, ◌≤◌, ◌<◌, List, [], ◌∷◌, ◌++◌, Option, Some, None, length, ◌⊎◌}
+use Rattle.std.specs.Prelude.{Bool, IsTrue}
 use Rattle.open_graphs.specs.Graph.{Verdict, Yes, No, Neither, Node}
 use Rattle.open_graphs.specs.Stack.{Entry, path_kind}
 use Rattle.open_graphs.specs.Use.{Head, Heads, Use, ProvisionalUse}
@@ -59,7 +60,8 @@ abbrev pub InsertsHeads : ℕ → Heads → Heads → Heads → Type 0
 InsertsHeads popped heads top_heads after =
     (depth : ℕ)
     → depth < popped
-    → IsInserted (heads depth) (IsJoined (heads popped).paths (top_heads depth).paths) (top_heads depth).usages (after depth)
+    → IsInserted (heads depth) (IsJoined (heads popped).paths (top_heads depth).paths)
+    (top_heads depth).usages (after depth)
 
 -- each cycle through the popped entry has the same kind with the way over the answer in it
 abbrev pub PassesPathTest : List Entry → Entry → ℕ → Heads → Heads → Type 0
@@ -89,7 +91,8 @@ abbrev pub IsLeftHead : ℕ → (ℕ → Bool) → (ℕ → Bool) → ℕ → Ty
 IsLeftHead popped own others depth = (depth ≢ popped) × (IsTrue (own depth) ⊎ IsTrue (others depth))
 
 -- an answer without the popped head, with a new highest head and the path kind from there
-pub record IsTakenOut (below : List Entry) (top : Entry) (own others : ℕ → Bool) (k after : ProvisionalEntry) : Type 0 where
+pub record IsTakenOut (below : List Entry) (top : Entry) (own others : ℕ → Bool)
+    (k after : ProvisionalEntry) : Type 0 where
   pub was : k.highest ≡ length below
   pub same_node : after.node ≡ k.node
   pub path : after.path ≡ max k.path (path_kind below top.step after.highest)
@@ -97,9 +100,10 @@ pub record IsTakenOut (below : List Entry) (top : Entry) (own others : ℕ → B
   pub highest : (depth : ℕ) → IsLeftHead (length below) own others depth → depth ≤ after.highest
   pub only : (depth cycle : ℕ) → (after.heads depth).usages cycle ≢ 0 → IsLeftHead (length below) own others depth
 
--- What a provisional entry is after the pop. One that isn't left stands in no relation: without heads, after a failed path
--- test, or with a result that isn't left.
-pub data RebasedBy (reason : Reason) (below : List Entry) (top : Entry) (own others : ℕ → Bool) (top_heads : Heads) : ProvisionalEntry → ProvisionalEntry → Type 0 where
+-- What a provisional entry is after the pop. One that isn't left stands in no relation: without heads, after a failed
+-- path test, or with a result that isn't left.
+pub data RebasedBy (reason : Reason) (below : List Entry) (top : Entry) (own others : ℕ → Bool) (top_heads : Heads) :
+    ProvisionalEntry → ProvisionalEntry → Type 0 where
   Stays : {k : ProvisionalEntry} → k.highest ≢ length below → RebasedBy reason below top own others top_heads k k
   NotNeeded :
       {k after : ProvisionalEntry} → IsTakenOut below top own others k after → IsZero (k.heads (length below))
@@ -112,9 +116,11 @@ pub data RebasedBy (reason : Reason) (below : List Entry) (top : Entry) (own oth
       → HasResult reason (k.heads (length below)) k.verdict after.verdict
       → RebasedBy reason below top own others top_heads k after
 
--- what holds at the pop, where `own` are the depths in the answer's map and `others` those in the popped entry's: the reason
--- is true, the popped entry's heads lie below it, and the answer's highest head is the greatest in its map and on the stack
-pub record IsRebasable (reason : Reason) (below : List Entry) (top : Entry) (own others : ℕ → Bool) (verdict : Verdict) (top_heads : Heads) (k : ProvisionalEntry) : Type 0 where
+-- what holds at the pop, where `own` are the depths in the answer's map and `others` those in the popped
+-- entry's: the reason is true, the popped entry's heads lie below it, and the answer's highest head is the
+-- greatest in its map and on the stack
+pub record IsRebasable (reason : Reason) (below : List Entry) (top : Entry) (own others : ℕ → Bool) (verdict : Verdict)
+    (top_heads : Heads) (k : ProvisionalEntry) : Type 0 where
   pub is_true : IsTrueReason reason verdict top
   pub own_within : (depth : ℕ) → IsTrue (own depth) → depth ≤ k.highest
   pub top_depths : AreDepths others top_heads

@@ -6,7 +6,8 @@ use Rattle.open_graphs.specs.Use.{Heads, Use, Includes, IncludesBelow}
 
 -- The question over an edge was answered by its target: the answer may be used with the edge's step in front, and its
 -- heads below the top entry are among the run's.
-pub record IsAnsweredEdge (nodes : List Node) (verdict : Verdict) (below : List Entry) (top : Entry) (edge : Edge) (heads : Heads) : Type 0 where
+pub record IsAnsweredEdge (nodes : List Node) (verdict : Verdict) (below : List Entry) (top : Entry)
+    (edge : Edge) (heads : Heads) : Type 0 where
   pub answer : Heads
   pub used :
       Use nodes verdict (below ++ top ∷ []) (path_kind (below ++ top ∷ []) edge.kind) edge.kind edge.target answer
@@ -18,17 +19,18 @@ AllAnswered nodes verdict below top edges heads =
     (i : ℕ) (edge : Edge)
     → slice_get edges i ≡ Some edge → IsAnsweredEdge nodes verdict below top edge heads
 
--- The node is the run's own: in the first run the one to which its cycles lead, later another one. The run then goes on under
--- a provisional result of another verdict.
+-- The node is the run's own: in the first run the one to which its cycles lead, later another one. The run then goes on
+-- under a provisional result of another verdict.
 abbrev pub IsRunsNode : Verdict → Entry → ℕ → Type 0
 IsRunsNode verdict top n =
     ((top.node ≡ n) × (top.provisional ≡ None))
     ⊎ ((top.node ≢ n) × (top.provisional ≢ None) × (top.provisional ≢ Some verdict))
 
--- A run of the top entry with the node `own`: its answers so far, outside ignored candidates, by verdict, and the heads of
--- all runs. In the first run cycles lead to `own`. In a later run they lead to the node of the provisional result, which
--- may be used with the heads `heads_before` that the entry had as the run began.
-pub record Running (nodes : List Node) (below : List Entry) (top : Entry) (own : ℕ) (edges : Verdict → List Edge) (heads_before heads : Heads) :
+-- A run of the top entry with the node `own`: its answers so far, outside ignored candidates, by verdict, and the heads
+-- of all runs. In the first run cycles lead to `own`. In a later run they lead to the node of the provisional result,
+-- which may be used with the heads `heads_before` that the entry had as the run began.
+pub record Running (nodes : List Node) (below : List Entry) (top : Entry) (own : ℕ)
+    (edges : Verdict → List Edge) (heads_before heads : Heads) :
     Type 0 where
   pub unfinished : slice_get nodes own ≡ Some Unfinished
   pub lower : ¬ IsLeaf below own

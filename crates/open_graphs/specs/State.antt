@@ -50,7 +50,8 @@ in_next_run f verdict a own = record {
 
 -- the frame with other answers, and the heads with theirs
 abbrev pub answering : RunningGoal → (Verdict → List Edge) → Heads → RunningGoal
-answering f edges heads = record { entry = f.entry; own = f.own; edges = edges; heads_before = f.heads_before; heads = heads }
+answering f edges heads =
+    record { entry = f.entry; own = f.own; edges = edges; heads_before = f.heads_before; heads = heads }
 
 -- the entries of frames, of which the newest stands first
 abbrev pub stack_of : List RunningGoal → List Entry
@@ -64,7 +65,8 @@ no_heads depth = record { paths = λ path. false; usages = λ cycle. 0 }
 -- each frame runs above those below it
 abbrev pub AllRunning : List Node → List RunningGoal → Type 0
 AllRunning nodes [] = Unit {0}
-AllRunning nodes (f ∷ fs) = Running nodes (stack_of fs) f.entry f.own f.edges f.heads_before f.heads × AllRunning nodes fs
+AllRunning nodes (f ∷ fs) =
+    Running nodes (stack_of fs) f.entry f.own f.edges f.heads_before f.heads × AllRunning nodes fs
 
 -- the node is not the own one of any of these runs
 abbrev pub OwnsOther : ℕ → List RunningGoal → Type 0
@@ -88,9 +90,10 @@ AllFinal nodes stack finals =
     (i : ℕ) (f : Final)
     → slice_get finals i ≡ Some f → Use nodes f.verdict stack (λ depth. 0) 0 f.node no_heads
 
--- The state of an evaluation: the list, the frames with the newest first, the provisional entries with a verdict, and the
--- final answers.
-pub record IsSoundState (nodes : List Node) (frames : List RunningGoal) (provisional : List ProvisionalEntry) (final : List Final) : Type 0 where
+-- The state of an evaluation: the list, the frames with the newest first, the provisional entries with a verdict,
+-- and the final answers.
+pub record IsSoundState (nodes : List Node) (frames : List RunningGoal)
+    (provisional : List ProvisionalEntry) (final : List Final) : Type 0 where
   pub is_stack : IsStack nodes (stack_of frames)
   pub running : AllRunning nodes frames
   pub apart : AllApart frames
@@ -120,10 +123,11 @@ pub record IsOther (verdict : Verdict) (top : Entry) (depth : ℕ) (heads : Head
   pub kinds : top.provisional ≡ None → (path : ℕ) → Recorded heads depth path (cycle_kind verdict) → ⊥
 
 -- What a provisional entry is after the newest goal was popped: unchanged where its highest head lies lower; with other
--- heads where it used the popped entry not at all, or only by cycles that were answered with another verdict than its own;
--- and where the popped entry reached its fixpoint with a verdict, each cycle through it keeps its kind, and its heads are
--- taken over.
-pub data AfterPop (below : List Entry) (top : Entry) (verdict : Verdict) (top_heads : Heads) : ProvisionalEntry → ProvisionalEntry → Type 0 where
+-- heads where it used the popped entry not at all, or only by cycles that were answered with another verdict than its
+-- own; and where the popped entry reached its fixpoint with a verdict, each cycle through it keeps its kind, and its
+-- heads are taken over.
+pub data AfterPop (below : List Entry) (top : Entry) (verdict : Verdict) (top_heads : Heads) : ProvisionalEntry
+    → ProvisionalEntry → Type 0 where
   Lower : {k : ProvisionalEntry} → k.highest < length below → AfterPop below top verdict top_heads k k
   Unused :
       {k after : ProvisionalEntry} → IsMoved below top k after → UsesNo k.heads (length below)

@@ -46,10 +46,11 @@ IncludesBelow limit smaller larger =
 abbrev pub UsesNo : Heads → ℕ → Type 0
 UsesNo heads depth = (path cycle : ℕ) → Recorded heads depth path cycle → ⊥
 
--- The answer with node `a` holds where `from_head` is the path kind from each entry: each path from `a` to an entry's node
--- is among the paths of that head, the kind of its cycle among the head's usages, and cycles of that kind were answered
--- with the verdict. The paths of the heads begin with `front`: 0 for a finished goal, the step for an edge.
-pub record Use (nodes : List Node) (verdict : Verdict) (stack : List Entry) (from_head : ℕ → ℕ) (front a : ℕ) (heads : Heads) : Type 0 where
+-- The answer with node `a` holds where `from_head` is the path kind from each entry: each path from `a` to an entry's
+-- node is among the paths of that head, the kind of its cycle among the head's usages, and cycles of that kind were
+-- answered with the verdict. The paths of the heads begin with `front`: 0 for a finished goal, the step for an edge.
+pub record Use (nodes : List Node) (verdict : Verdict) (stack : List Entry) (from_head : ℕ → ℕ)
+    (front a : ℕ) (heads : Heads) : Type 0 where
   pub open_graph : OpenGraph nodes verdict stack a
   pub covered :
       (depth : ℕ) (entry : Entry) (q : ℕ) (on : List ℕ)
@@ -65,8 +66,10 @@ Unreached nodes verdict stack a b = (q : ℕ) → Walk (Step nodes verdict stack
 abbrev pub HeadsWithin : Heads → ℕ → Type 0
 HeadsWithin heads highest = (depth path cycle : ℕ) → Recorded heads depth path cycle → depth ≤ highest
 
--- a provisional entry, for when its goal is asked later: it holds wherever the path kind from its highest head is the entry's
-pub record ProvisionalUse (nodes : List Node) (verdict : Verdict) (stack : List Entry) (highest path a : ℕ) (heads : Heads) : Type 0 where
+-- a provisional entry, for when its goal is asked later: it holds wherever the path kind from its
+-- highest head is the entry's
+pub record ProvisionalUse (nodes : List Node) (verdict : Verdict) (stack : List Entry)
+    (highest path a : ℕ) (heads : Heads) : Type 0 where
   pub on_stack : highest < length stack
   pub within : HeadsWithin heads highest
   pub use_there : Use nodes verdict stack (path_through stack highest path) 0 a heads

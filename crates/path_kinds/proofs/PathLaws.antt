@@ -1,9 +1,13 @@
 -- The laws of sets of paths, for bits that no flag has too: the flags are the five lowest bits.
-use Rattle.std.proofs.Common.{◌≡◌, ℕ, ◌+◌, ◌*◌, ◌/◌, ◌%◌, ◌^◌, ◌<◌, Bool, true, false, ◌||◌, not, ◌==◌, nat_lt, List, [], ◌∷◌, ◌++◌, map, filter, fold, if◌then◌else◌, Contains, IsTrue, ◌↔◌, refl, ap, sym, ◌∙◌, subst, ◌⊎◌, inl, inr, arith}
+use Rattle.std.proofs.Common.{◌≡◌, ℕ, ◌+◌, ◌*◌, ◌/◌, ◌%◌, ◌^◌, ◌<◌, Bool, true, false, ◌||◌, not, ◌==◌, nat_lt, List}
+use Rattle.std.proofs.Common.{[], ◌∷◌, ◌++◌, map, filter, fold, if◌then◌else◌, Contains, IsTrue, ◌↔◌, refl, ap, sym}
+use Rattle.std.proofs.Common.{◌∙◌, subst, ◌⊎◌, inl, inr, arith}
 use Rattle.std.proofs.lemmas.Bool.{eqb-true, false≢true, or_cases, or_left, or_right, ltb-true, not-true}
 use Rattle.std.proofs.lemmas.Nat.{and_block, and_le_r, or_block, or_comm, or_mod, or_shr, or_shifted}
 use Rattle.std.specs.Int.RustNames.{bit_and, bit_or}
-use Rattle.path_kinds.specs.Words.{PathKind, Inductive, Unknown, Coinductive, ForcedAmbiguity, PathsToNested, greater_kind, extended, has_empty, has_kind, kinds_after, no_paths, paths_of, union, union_of, unnamed_in}
+use Rattle.path_kinds.specs.Words.{PathKind, Inductive, Unknown, Coinductive, ForcedAmbiguity, PathsToNested}
+use Rattle.path_kinds.specs.Words.{greater_kind, extended, has_empty, has_kind, kinds_after, no_paths, paths_of, union}
+use Rattle.path_kinds.specs.Words.{union_of, unnamed_in}
 use Rattle.open_graphs.proofs.Members.{contains_later}
 pub use Rattle.open_graphs.proofs.Members.{first_or_later}
 use Rattle.path_kinds.proofs.PathSets.{all_below, passes, passes_each, same_bits}
@@ -14,7 +18,8 @@ low_flag : (n flag : ℕ) → flag < 32 → bit_and n flag ≡ bit_and (n % 32) 
 low_flag n flag lt =
     let split : n ≡ n / 32 * 2 ^ 5 + n % 32 = omega arith in
     let none : flag ≡ 0 * 2 ^ 5 + flag = omega arith in
-    let above : bit_and (n / 32) 0 * 2 ^ 5 + bit_and (n % 32) flag ≡ bit_and (n % 32) flag = omega (arith, and_le_r (n / 32) 0) in
+    let above : bit_and (n / 32) 0 * 2 ^ 5 + bit_and (n % 32) flag ≡ bit_and (n % 32) flag =
+    omega (arith, and_le_r (n / 32) 0) in
     (λ i. bit_and (split i) (none i)) ∙ and_block 5 (n / 32) 0 (n % 32) flag (omega arith) lt ∙ above
 
 same_kind : (n : ℕ) (kind : PathKind) → has_kind (record { 0 = n }) kind ≡ has_kind (record { 0 = n % 32 }) kind
@@ -26,8 +31,10 @@ same_kind n ForcedAmbiguity = ap (λ m. m == 16) (low_flag n 16 (omega arith))
 same_empty : (n : ℕ) → has_empty (record { 0 = n }) ≡ has_empty (record { 0 = n % 32 })
 same_empty n = ap (λ m. m == 1) (low_flag n 1 (omega arith))
 
-same_kinds_after : (n : ℕ) (step : PathKind) → kinds_after (record { 0 = n }) step ≡ kinds_after (record { 0 = n % 32 }) step
-same_kinds_after n step = λ i. map (greater_kind step) ((if same_empty n i then Inductive ∷ [] else []) ++ filter (λ kind. same_kind n kind i) (Inductive ∷ Unknown ∷ Coinductive ∷ ForcedAmbiguity ∷ []))
+same_kinds_after : (n : ℕ) (step : PathKind)
+    → kinds_after (record { 0 = n }) step ≡ kinds_after (record { 0 = n % 32 }) step
+same_kinds_after n step = λ i. map (greater_kind step) ((if same_empty n i then Inductive ∷ [] else [])
+    ++ filter (λ kind. same_kind n kind i) (Inductive ∷ Unknown ∷ Coinductive ∷ ForcedAmbiguity ∷ []))
 
 -- the flags of a set after a step
 abbrev named : PathKind → ℕ → ℕ
@@ -49,7 +56,8 @@ named_joins : (step : PathKind) (a : ℕ) → a < 32 → all_below (joins step a
 named_joins step = passes_each (λ step m. all_below (joins step m) 32) 32 refl refl refl refl step
 
 -- the flags of a set after a step, and the bits above as they were
-extended_parts : (paths : PathsToNested) (step : PathKind) → (extended paths step).0 ≡ paths.0 / 32 * 2 ^ 5 + named step (paths.0 % 32)
+extended_parts : (paths : PathsToNested) (step : PathKind)
+    → (extended paths step).0 ≡ paths.0 / 32 * 2 ^ 5 + named step (paths.0 % 32)
 unfolding extended
 extended_parts paths step =
     let fits = ltb-true _ _ (named_fits step (paths.0 % 32) (omega arith)) in
@@ -57,13 +65,15 @@ extended_parts paths step =
     ∙ or_comm (named step (paths.0 % 32)) (paths.0 / 32 * 32)
     ∙ or_shifted (paths.0 / 32) 5 (named step (paths.0 % 32)) fits
 
-pub extended-union : (some more : PathsToNested) (step : PathKind) → extended (union some more) step ≡ union (extended some step) (extended more step)
+pub extended-union : (some more : PathsToNested) (step : PathKind)
+    → extended (union some more) step ≡ union (extended some step) (extended more step)
 extended-union some more step =
     let a = some.0 in
     let b = more.0 in
     let fits_a : named step (a % 32) < 32 = ltb-true _ _ (named_fits step (a % 32) (omega arith)) in
     let fits_b : named step (b % 32) < 32 = ltb-true _ _ (named_fits step (b % 32) (omega arith)) in
-    let joined : named step (bit_or (a % 32) (b % 32)) ≡ bit_or (named step (a % 32)) (named step (b % 32)) = eqb-true _ _ (passes (joins step (a % 32)) 32 (named_joins step (a % 32) (omega arith)) (b % 32) (omega arith)) in
+    let joined : named step (bit_or (a % 32) (b % 32)) ≡ bit_or (named step (a % 32)) (named step (b % 32)) =
+    eqb-true _ _ (passes (joins step (a % 32)) 32 (named_joins step (a % 32) (omega arith)) (b % 32) (omega arith)) in
     same_bits _ _ (extended_parts (union some more) step
     ∙ (λ i. or_shr a b 5 i * 2 ^ 5 + named step (or_mod a b 5 i))
     ∙ ap (λ m. bit_or (a / 32) (b / 32) * 2 ^ 5 + m) joined
@@ -76,11 +86,14 @@ twice some more n = named more (named some n) == named (greater_kind some more) 
 named_twice : (some more : PathKind) (n : ℕ) → n < 32 → twice some more n ≡ true
 unfolding twice
 named_twice some more = each_kind (λ k. (n : ℕ) → n < 32 → twice k more n ≡ true)
-    (passes_each (twice Inductive) 32 refl refl refl refl more) (passes_each (twice Unknown) 32 refl refl refl refl more)
-    (passes_each (twice Coinductive) 32 refl refl refl refl more) (passes_each (twice ForcedAmbiguity) 32 refl refl refl refl more) some
+    (passes_each (twice Inductive) 32 refl refl refl refl more)
+    (passes_each (twice Unknown) 32 refl refl refl refl more)
+    (passes_each (twice Coinductive) 32 refl refl refl refl more)
+    (passes_each (twice ForcedAmbiguity) 32 refl refl refl refl more) some
 
 -- two steps in turn are the greater one
-pub extended-twice : (paths : PathsToNested) (some more : PathKind) → extended (extended paths some) more ≡ extended paths (greater_kind some more)
+pub extended-twice : (paths : PathsToNested) (some more : PathKind)
+    → extended (extended paths some) more ≡ extended paths (greater_kind some more)
 unfolding twice
 extended-twice paths some more =
     let low = paths.0 % 32 in
@@ -115,19 +128,22 @@ same_from_test false true h = h
 same_from_test false false h = refl
 
 abbrev keeps_kind : PathKind → ℕ → ℕ → Bool
-keeps_kind kind a b = same_test (has_kind (record { 0 = bit_or a b }) kind) (has_kind (record { 0 = a }) kind || has_kind (record { 0 = b }) kind)
+keeps_kind kind a b = same_test (has_kind (record { 0 = bit_or a b }) kind)
+    (has_kind (record { 0 = a }) kind || has_kind (record { 0 = b }) kind)
 
 low_keeps_kind : (kind : PathKind) (a : ℕ) → a < 32 → all_below (keeps_kind kind a) 32 ≡ true
 unfolding same_test
 low_keeps_kind kind = passes_each (λ kind m. all_below (keeps_kind kind m) 32) 32 refl refl refl refl kind
 
-pub has_kind-union : (some more : PathsToNested) (kind : PathKind) → has_kind (union some more) kind ≡ (has_kind some kind || has_kind more kind)
+pub has_kind-union : (some more : PathsToNested) (kind : PathKind)
+    → has_kind (union some more) kind ≡ (has_kind some kind || has_kind more kind)
 has_kind-union some more kind =
     let a = some.0 in
     let b = more.0 in
     same_kind (bit_or a b) kind
     ∙ ap (λ n. has_kind (record { 0 = n }) kind) (or_mod a b 5)
-    ∙ same_from_test _ _ (passes (keeps_kind kind (a % 32)) 32 (low_keeps_kind kind (a % 32) (omega arith)) (b % 32) (omega arith))
+    ∙ same_from_test _ _
+    (passes (keeps_kind kind (a % 32)) 32 (low_keeps_kind kind (a % 32) (omega arith)) (b % 32) (omega arith))
     ∙ (λ i. sym (same_kind a kind) i || sym (same_kind b kind) i)
 
 pub has_kind-none : (kind : PathKind) → has_kind no_paths kind ≡ false

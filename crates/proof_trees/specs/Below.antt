@@ -5,4 +5,5 @@ pub use Rattle.search_context.specs.Delegate.{CanTake, CountsOne, Steps}
 pub use Rattle.search_context.specs.declared.context.Reply.{Reply}
 pub use Rattle.search_context.specs.declared.context.Reply.TheVariants.{Answer}
 pub use Rattle.search_context.specs.declared.context.Request.{Request}
-pub use Rattle.search_context.specs.declared.context.Request.TheVariants.{Done, EnterCandidate, Evaluate, FinishCandidate, Ignore}
+pub use Rattle.search_context.specs.declared.context.Request.TheVariants.{Done, EnterCandidate, Evaluate}
+pub use Rattle.search_context.specs.declared.context.Request.TheVariants.{FinishCandidate, Ignore}

@@ -2,7 +2,8 @@
 use Rattle.std.specs.Prelude.{ℕ, ◌+◌, ◌-◌, ◌^◌, min, true, false, if◌then◌else◌, Option, None, Some}
 use Rattle.proof_trees.specs.Below.{Reply, Answer, Request, Done, EnterCandidate, Evaluate, FinishCandidate, Ignore}
 use Rattle.proof_trees.specs.declared.entry.Entry.{Entry}
-use Rattle.proof_trees.specs.declared.entry.Part.TheVariants.{Run, Candidate, FinishedCandidate, IgnoredCandidate, Question, RunEnd}
+use Rattle.proof_trees.specs.declared.entry.Part.TheVariants.{Run, Candidate, FinishedCandidate, IgnoredCandidate}
+use Rattle.proof_trees.specs.declared.entry.Part.TheVariants.{Question, RunEnd}
 use Rattle.proof_trees.specs.declared.run_record.Place.{Place}
 use Rattle.proof_trees.specs.declared.run_record.RunRecord.{RunRecord}
 
@@ -33,7 +34,8 @@ module _ {I R : Type 0} where
 
   -- the entry of a reply to this request: that of a question that was answered
   abbrev pub entry_of_reply : RunRecord I R → Option (Request I R) → Reply R → Option (Entry I R)
-  entry_of_reply run (Some (Evaluate kind goal)) (Answer r) = Some (record { level = question_level run; part = Question kind goal r })
+  entry_of_reply run (Some (Evaluate kind goal)) (Answer r) =
+      Some (record { level = question_level run; part = Question kind goal r })
   entry_of_reply run _ _ = None
 
   -- the entry of a request; a question has none before it is answered
@@ -47,11 +49,13 @@ module _ {I R : Type 0} where
   -- the record after a request
   abbrev pub record_after : RunRecord I R → Request I R → RunRecord I R
   record_after run EnterCandidate = record run { in_candidate = true; request = Some EnterCandidate }
-  record_after run FinishCandidate = record run { in_candidate = false; finished = one_more run.finished; request = Some FinishCandidate }
+  record_after run FinishCandidate =
+      record run { in_candidate = false; finished = one_more run.finished; request = Some FinishCandidate }
   record_after run request = record run { request = Some request }
 
   -- where the next run stands after a request, which else would stand at `before`
   abbrev pub place_after : RunRecord I R → Place → Request I R → Place
   place_after run before (Evaluate kind goal) = record { level = question_level run; kind = Some kind; number = 1 }
-  place_after run before (Done r) = record { level = run.place.level; kind = run.place.kind; number = one_more run.place.number }
+  place_after run before (Done r) =
+      record { level = run.place.level; kind = run.place.kind; number = one_more run.place.number }
   place_after run before _ = before

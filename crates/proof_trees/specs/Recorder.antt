@@ -32,7 +32,8 @@ module _ {B I R : Type 0} where
 
   -- the same if entries are recorded
   abbrev pub with_entry : Recorder B I R → Option (Entry I R) → List (Entry I R)
-  with_entry recorder entry = if recorder.is_recording then and_entry (entries_of recorder) entry else entries_of recorder
+  with_entry recorder entry =
+      if recorder.is_recording then and_entry (entries_of recorder) entry else entries_of recorder
 
   -- the frames' own builder stays, and whether entries are recorded; and the entries that there were come first
   pub record Keeps (old new : Recorder B I R) : Type 0 where

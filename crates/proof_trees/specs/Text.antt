@@ -4,7 +4,8 @@ use Rattle.std.specs.List.{flat_map}
 use Rattle.proof_trees.specs.Below.{PathKind}
 use Rattle.proof_trees.specs.declared.entry.Entry.{Entry}
 use Rattle.proof_trees.specs.declared.entry.Part.{Part}
-use Rattle.proof_trees.specs.declared.entry.Part.TheVariants.{Run, Candidate, FinishedCandidate, IgnoredCandidate, Question, RunEnd}
+use Rattle.proof_trees.specs.declared.entry.Part.TheVariants.{Run, Candidate, FinishedCandidate, IgnoredCandidate}
+use Rattle.proof_trees.specs.declared.entry.Part.TheVariants.{Question, RunEnd}
 
 -- those of 20 levels
 abbrev pub spaces : List ℕ

@@ -3,7 +3,8 @@ use Rattle.std.specs.Prelude.{◌-◌, ◌&&◌, ℕ, nat_eq, Bool, false, lengt
 use Rattle.std.specs.Option.{option_map_or}
 use Rattle.proof_trees.specs.declared.entry.Entry.{Entry}
 use Rattle.proof_trees.specs.declared.entry.Part.{Part}
-use Rattle.proof_trees.specs.declared.entry.Part.TheVariants.{Run, Candidate, FinishedCandidate, IgnoredCandidate, Question, RunEnd}
+use Rattle.proof_trees.specs.declared.entry.Part.TheVariants.{Run, Candidate, FinishedCandidate, IgnoredCandidate}
+use Rattle.proof_trees.specs.declared.entry.Part.TheVariants.{Question, RunEnd}
 
 module _ {I R : Type 0} where
   abbrev pub is_end : Part I R → Bool
@@ -34,4 +35,5 @@ module _ {I R : Type 0} where
 
     -- they begin with the one and end with the other
     abbrev pub is_whole : List (Entry I R) → Bool
-    is_whole entries = option_map_or is_first (slice_get entries 0) false && option_map_or is_last (slice_get entries (length entries - 1)) false
+    is_whole entries = option_map_or is_first (slice_get entries 0) false
+        && option_map_or is_last (slice_get entries (length entries - 1)) false

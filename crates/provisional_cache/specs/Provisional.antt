@@ -17,13 +17,15 @@ lists_of entries = map (λ e. (e.0, e.1.items)) entries
 abbrev pub entries_at : {I E : Type 0} → (I → I → Bool) → Lists I E → I → List E
 entries_at same lists input = unwrap_or (lookup (same input) lists) []
 
--- the list of the goal is the old one with the entry at its end, and each other goal's list, if it has one, is the old one
+-- the list of the goal is the old one with the entry at its end, and each other goal's list, if it
+-- has one, is the old one
 abbrev pub PutsLast : {I E : Type 0} → (I → I → Bool) → Lists I E → Lists I E → I → E → Type 0
 PutsLast same old new input entry = (other : _) → lookup (same other) new
     ≡ cond (same input other) (Some (entries_at same old input ++ entry ∷ [])) (lookup (same other) old)
 
 -- the goal has one entry more, at the end, and each other goal those that it had
-pub record AppendsEntry {I E : Type 0} (same : I → I → Bool) (old new : Lists I E) (input : I) (entry : E) : Type 0 where
+pub record AppendsEntry {I E : Type 0} (same : I → I → Bool) (old new : Lists I E)
+    (input : I) (entry : E) : Type 0 where
   pub here : entries_at same new input ≡ entries_at same old input ++ entry ∷ []
   pub others : (other : I) → same input other ≡ false → entries_at same new other ≡ entries_at same old other
 

@@ -23,8 +23,8 @@ module _ {X I R A T : Type 0} where
   abbrev pub asking_heads : List (StackEntry X I R A T) → Heads
   asking_heads stack = unwrap_or (option_map (λ e. e.state.heads) (slice_get stack (length stack - 1))) []
 
-  -- whether the entry may be used on this stack for its goal, asked over the step: the path from its highest head is of the kind that it
-  -- was, and where it met overflow, the asking goal has a head at that head or below it
+  -- whether the entry may be used on this stack for its goal, asked over the step: the path from its highest head is of
+  -- the kind that it was, and where it met overflow, the asking goal has a head at that head or below it
   abbrev pub may_be_used : List (StackEntry X I R A T) → PathKind → ProvisionalCacheEntry X I R A T → Bool
   may_be_used stack step entry = highest_passes (λ at _.
       (not entry.encountered_overflow || has_head_up_to at (asking_heads stack))

@@ -57,8 +57,10 @@ fn retain_lists<I: Eq + Hash + Copy, V: Drop, F: FnMut(&I, &mut V) -> bool>(
     lists: &mut HashMap<I, V>,
     keep: F,
 )
-    requires callable { CallableOnEachPair (CalledAtPair F.FnMut) (TakesPair F.FnMut) keep lists.old.entries }
-    ensures filtered { RetainsPairs (CalledAtPair F.FnMut) keep lists.old.entries lists.new.entries }
+    requires callable { CallableOnEachPair (CalledAtPair F.FnMut) (TakesPair F.FnMut)
+        keep lists.old.entries }
+    ensures filtered { RetainsPairs (CalledAtPair F.FnMut)
+        keep lists.old.entries lists.new.entries }
     ensures was_unique { IsUnique I.eq lists.old }
 {
     lists.retain(keep);

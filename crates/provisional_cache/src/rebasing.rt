@@ -275,7 +275,8 @@ fn replace_used(
     done: &CycleHeads,
 ) -> Result<(), NoMemory>
     requires some { heads.old ≢ [] }
-    ensures recorded { OnOk result (heads.new ≡ with_used done.now to_done (but_highest heads.old)) }
+    ensures recorded { OnOk result
+        (heads.new ≡ with_used done.now to_done (but_highest heads.old)) }
     ensures within { (size : ℕ) → All (λ head. head.0.0 ≤ size) heads.old
         → All (λ head. head.0.0 < size) done.now
         → OnOk result (IfSome (highest heads.new) (λ head. head.0.0 < size)) }

@@ -1,6 +1,9 @@
 pub mod Steps
 pub mod Ranked
 pub mod Reached
+pub mod Walks
 pub mod Inductive
 pub mod Coinductive
+pub mod Mixed
+pub mod Ambiguous
 pub mod Verdicts

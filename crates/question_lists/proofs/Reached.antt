@@ -1,12 +1,14 @@
--- The places that are reached in a finite graph, as a list that is closed.
-use Rattle.std.proofs.Common.{◌≡◌, ℕ, zero, suc, ◌+◌, ◌<◌, ◌⊎◌, inl, inr, List, [], ◌∷◌, length, get_or, slice_get, Contains, Option, None, Some, refl, sym, ap, ◌∙◌, subst, arith}
-use Rattle.std.specs.Option.{IsSomeAnd}
+-- The places that are reached in a finite graph, as a list that is closed, and their goals.
+use Rattle.std.proofs.Common.{◌≡◌, ℕ, zero, suc, ◌+◌, ◌<◌, ◌⊎◌, inl, inr, List, [], ◌∷◌, length, get_or, map, slice_get}
+use Rattle.std.proofs.Common.{Contains, Option, None, Some, refl, sym, ap, ◌∙◌, subst, arith}
+use Rattle.std.specs.Option.{IsSomeAnd, option_map}
 use Rattle.std.proofs.lemmas.Bool.Decides.{eqb_tells}
 use Rattle.std.proofs.lemmas.Option.{slice_get-get_or, get_or_from_slice_get}
 use Rattle.open_graphs.proofs.Members.{contains_later, first_or_later}
 use Rattle.search_context.proofs.Pigeonhole.{pigeonhole}
-use Rattle.search_context.proofs.Graphs.{goal_node, HasGoal-within, IsReached-step}
-use Rattle.question_lists.specs.Below.{PathKind, Edge, GraphNode, HasEdge, HasGoal, IsReached, IsGraph, IsWalk, Question}
+use Rattle.search_context.proofs.Graphs.{Contains-map, Contains-mapped, goal_node, HasGoal-within, IsReached-step}
+use Rattle.question_lists.specs.Below.{PathKind, Edge, GraphNode, HasEdge, HasGoal, IsReached, IsGraph}
+use Rattle.question_lists.specs.Below.{IsWalk, Question}
 
 -- whether a number is in the list
 has : (xs : List ℕ) (n : ℕ) → Contains xs n ⊎ (Contains xs n → ⊥)
@@ -36,11 +38,15 @@ module _ {I : Type 0} where
     | inr out ↦ inl (record { edge = e; is_among = (0, omega arith, refl); is_out = out })
     | inl into ↦ elim (seek_edge xs edges) [
       | inl w ↦ inl (record { edge = w.edge; is_among = contains_later w.edge e edges w.is_among; is_out = w.is_out })
-      | inr all ↦ inr (λ f h. elim (first_or_later e f edges h) [ inl same ↦ subst (λ g. Contains xs g.target) same into | inr later ↦ all f later ])
+      | inr all ↦ inr (λ f h. elim (first_or_later e f edges h) [
+        | inl same ↦ subst (λ g. Contains xs g.target) same into
+        | inr later ↦ all f later
+      ])
     ]
   ]
 
-  seek_node : (xs : List ℕ) (o : Option (GraphNode I)) → LeadsOut xs (λ e. IsSomeAnd o (λ n. Contains n.edges e)) ⊎ LeadIn xs (λ e. IsSomeAnd o (λ n. Contains n.edges e))
+  seek_node : (xs : List ℕ) (o : Option (GraphNode I)) → LeadsOut xs (λ e. IsSomeAnd o (λ n. Contains n.edges e))
+      ⊎ LeadIn xs (λ e. IsSomeAnd o (λ n. Contains n.edges e))
   seek_node xs None = inr (λ e h. absurd h)
   seek_node xs (Some n) = elim (seek_edge xs n.edges) [
     | inl w ↦ inl (record { edge = w.edge; is_among = w.is_among; is_out = w.is_out })
@@ -62,9 +68,21 @@ module _ {I : Type 0} where
     seek : (xs places : List ℕ) → Leaves xs places ⊎ Stay xs places
     seek xs [] = inr (λ at e h. absurd (omega (arith, h.1)))
     seek xs (p ∷ places) = elim (seek_node xs (slice_get nodes p)) [
-      | inl w ↦ inl (record { place = p; is_place = (0, omega arith, refl); edge = w.edge; has_edge = w.is_among; is_out = w.is_out })
+      | inl w ↦ inl (record {
+        place = p;
+        is_place = (0, omega arith, refl);
+        edge = w.edge;
+        has_edge = w.is_among;
+        is_out = w.is_out;
+      })
       | inr all ↦ elim (seek xs places) [
-        | inl w ↦ inl (record { place = w.place; is_place = contains_later w.place p places w.is_place; edge = w.edge; has_edge = w.has_edge; is_out = w.is_out })
+        | inl w ↦ inl (record {
+          place = w.place;
+          is_place = contains_later w.place p places w.is_place;
+          edge = w.edge;
+          has_edge = w.has_edge;
+          is_out = w.is_out;
+        })
         | inr stay ↦ inr (λ at e h f. elim (first_or_later p at places h) [
           | inl same ↦ all e (subst (λ x. HasEdge nodes x e) (sym same) f)
           | inr later ↦ stay at e later f
@@ -91,7 +109,8 @@ distinct_within xs n distinct below l =
     let w = pigeonhole n (λ i. get_or xs i 0) (λ i h. below (get_or xs i 0) (at_place xs i (omega arith))) in
     distinct w.0 w.1 w.2 (let h = w.3 in omega arith) w.4
 
-module _ {I : Type 0} (rule : I → List (Question I) → Type 0) (kind : PathKind) (nodes : List (GraphNode I)) (root : ℕ) (goal : I) (graph : IsGraph rule kind nodes root goal) where
+module _ {I : Type 0} (rule : I → List (Question I) → Type 0) (kind : PathKind) (nodes : List (GraphNode I)) (root : ℕ)
+    (goal : I) (graph : IsGraph rule kind nodes root goal) where
   -- places that are reached, the root among them, and closed under edges
   pub record Reached : Type 0 where
     pub places : List ℕ
@@ -104,18 +123,22 @@ module _ {I : Type 0} (rule : I → List (Question I) → Type 0) (kind : PathKi
 
   grow : (fuel : ℕ) (xs : List ℕ) → length xs + fuel ≡ suc (length nodes) → Distinct xs → Contains xs root →
       ((at : ℕ) → Contains xs at → IsReached nodes root at) → ((at : ℕ) → Contains xs at → at < length nodes) → Reached
-  grow zero xs size distinct rooted reached below = absurd (distinct_within xs (length nodes) distinct below (omega arith))
+  grow zero xs size distinct rooted reached below =
+      absurd (distinct_within xs (length nodes) distinct below (omega arith))
   grow (suc fuel) xs size distinct rooted reached below = elim (seek nodes xs xs) [
     | inr stay ↦ record { places = xs; has_root = rooted; are_reached = reached; stay = stay }
     | inl w ↦
         let n = w.edge.target in
-        grow fuel (w.edge.target ∷ xs) (omega arith) (distinct_with w.edge.target xs distinct w.is_out) (contains_later root w.edge.target xs rooted)
+        grow fuel (w.edge.target ∷ xs) (omega arith) (distinct_with w.edge.target xs distinct w.is_out)
+        (contains_later root w.edge.target xs rooted)
         (λ at h. elim (first_or_later w.edge.target at xs h) [
-          | inl same ↦ subst (IsReached nodes root) same (IsReached-step nodes root w.place w.edge (reached w.place w.is_place) w.has_edge)
+          | inl same ↦ subst (IsReached nodes root) same
+              (IsReached-step nodes root w.place w.edge (reached w.place w.is_place) w.has_edge)
           | inr later ↦ reached at later
         ])
         (λ at h. elim (first_or_later w.edge.target at xs h) [
-          | inl same ↦ subst (λ x. x < length nodes) same (reached_within w.place w.edge (reached w.place w.is_place) w.has_edge)
+          | inl same ↦
+              subst (λ x. x < length nodes) same (reached_within w.place w.edge (reached w.place w.is_place) w.has_edge)
           | inr later ↦ below at later
         ])
   ]
@@ -134,6 +157,50 @@ module _ {I : Type 0} (rule : I → List (Question I) → Type 0) (kind : PathKi
   pub node_at : (at : ℕ) → IsReached nodes root at → (n : GraphNode I) × (slice_get nodes at ≡ Some n)
   node_at at w = node_after root goal graph.rooted ([], refl) at w.0 w.1
     where
-      node_after : (from : ℕ) (asked : I) → HasGoal nodes from asked → IsReached nodes root from → (to : ℕ) (walk : List (Edge I)) → IsWalk nodes from walk to → (n : GraphNode I) × (slice_get nodes to ≡ Some n)
-      node_after from asked h r to [] e = let w = goal_node (slice_get nodes from) asked h in (w.0, ap (slice_get nodes) (sym e) ∙ w.1)
-      node_after from asked h r to (e ∷ rest) w = node_after e.target e.input (graph.closed from e r w.0) (IsReached-step nodes root from e r w.0) to rest w.1
+      node_after : (from : ℕ) (asked : I) → HasGoal nodes from asked → IsReached nodes root from
+          → (to : ℕ) (walk : List (Edge I)) → IsWalk nodes from walk to
+          → (n : GraphNode I) × (slice_get nodes to ≡ Some n)
+      node_after from asked h r to [] e =
+          let w = goal_node (slice_get nodes from) asked h in (w.0, ap (slice_get nodes) (sym e) ∙ w.1)
+      node_after from asked h r to (e ∷ rest) w =
+          node_after e.target e.input (graph.closed from e r w.0) (IsReached-step nodes root from e r w.0) to rest w.1
+
+  -- the goals of all places that are reached
+  pub record ReachedGoals : Type 0 where
+    pub goals : List I
+    pub has : (at : ℕ) (asked : I) → IsReached nodes root at → HasGoal nodes at asked → Contains goals asked
+    pub place_of : (asked : I) → Contains goals asked → (at : ℕ) × IsReached nodes root at × HasGoal nodes at asked
+
+  stays_in : (all : Reached) (from to : ℕ) (walk : List (Edge I)) → Contains all.places from
+      → IsWalk nodes from walk to → Contains all.places to
+  stays_in all from to [] here w = subst (Contains all.places) w here
+  stays_in all from to (e ∷ walk) here w = stays_in all e.target to walk (all.stay from e here w.0) w.1
+
+  -- the goal of a node; each place that is reached has one
+  abbrev goal_of : Option (GraphNode I) → I
+  goal_of None = goal
+  goal_of (Some n) = n.goal
+
+  goal_of-is : (at : ℕ) (asked : I) → HasGoal nodes at asked → goal_of (slice_get nodes at) ≡ asked
+  goal_of-is at asked h = let w = goal_node (slice_get nodes at) asked h in ap goal_of w.1 ∙ w.2
+
+  goal_of-has : (at : ℕ) (asked : I) → IsReached nodes root at
+      → goal_of (slice_get nodes at) ≡ asked → HasGoal nodes at asked
+  goal_of-has at asked r e =
+      let n = node_at at r in ap (option_map (λ x. x.goal)) n.1 ∙ ap Some (sym (ap goal_of n.1) ∙ e)
+
+  goals_in : Reached → ReachedGoals
+  goals_in all = record {
+    goals = map (λ at. goal_of (slice_get nodes at)) all.places;
+    has = λ at asked r h.
+        subst (Contains (map (λ at. goal_of (slice_get nodes at)) all.places)) (goal_of-is at asked h)
+        (Contains-mapped (λ at. goal_of (slice_get nodes at)) all.places at
+        (stays_in all root at r.0 all.has_root r.1));
+    place_of = λ asked h.
+        let w = Contains-map (λ at. goal_of (slice_get nodes at)) all.places asked h in
+        let r = all.are_reached w.0 w.1 in
+        (w.0, r, goal_of-has w.0 asked r w.2);
+  }
+
+  pub reached_goals : ReachedGoals
+  reached_goals = goals_in reached

@@ -6,7 +6,8 @@ use Rattle.search_context.specs.declared.context.Verdict.{Verdict}
 use Rattle.search_context.specs.declared.context.Verdict.TheVariants.{Neither, No, Yes}
 
 -- a result that is yes or no has such a verdict
-pub never_neither : (r : Outcome) (v : Verdict) → ((v ≡ Yes) ↔ IsTrue (is_yes r)) → ((v ≡ No) ↔ IsTrue (is_no r)) → v ≡ Neither → IsDefinite outcome_verdicts r → ⊥
+pub never_neither : (r : Outcome) (v : Verdict) → ((v ≡ Yes) ↔ IsTrue (is_yes r)) → ((v ≡ No) ↔ IsTrue (is_no r))
+    → v ≡ Neither → IsDefinite outcome_verdicts r → ⊥
 never_neither outcomes.Yes v if_yes if_no e h = let y = if_yes.1 refl in absurd cc
 never_neither outcomes.No v if_yes if_no e h = let n = if_no.1 refl in absurd cc
 never_neither outcomes.Maybe v if_yes if_no e h = h refl

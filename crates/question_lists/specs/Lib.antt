@@ -1,5 +1,6 @@
 pub mod Below
 pub mod Needs
+pub mod Derivations
 pub mod Frame
 pub mod Meanings
 pub mod Told

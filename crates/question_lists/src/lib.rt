@@ -18,9 +18,12 @@
 //! | `Needs` | what proves and refutes a goal |
 //! | `Frame`, `Standing` | the frame of a goal, which asks its questions in order, and where it stands |
 //! | `Meanings`, `Told`, `Runs` | the laws of contexts and delegates, with their proofs |
+//! | `Derivations` | when goals hold, and when not, that ask over steps of several kinds |
 //!
-//! `proofs/Ranked` has lemmas for a caller's proof: that goals whose questions go down have a rank, what their plain
-//! values say, and which lists are decisive.
+//! `proofs/` has lemmas for a caller's proof. `Ranked`: that goals whose questions go down have a rank, what their plain
+//! values say, and which lists are decisive. And from a graph to a caller's words: `Reached` for the goals of a graph,
+//! `Walks` for recursion along it, and by these `Inductive`, `Coinductive` and `Mixed` for goals that ask over steps of
+//! these kinds, and `Ambiguous` for goals that say maybe.
 #![tactic(auto)]
 
 pub mod frame;

@@ -17,7 +17,7 @@ use std::hash::Hash;
 pub trait QuestionLists: Copy {
     ghost use Rattle.question_lists.specs.declared.needs.Needs.{Needs};
 
-    /// A goal.
+    /// A goal. It holds no references, since two that are equal have to be the same.
     type Input: Eq + Hash + Copy;
 
     /// Which of its questions a goal needs.

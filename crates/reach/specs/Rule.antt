@@ -12,7 +12,8 @@ predecessors_of blocks at = option_map_or (λ b. b.predecessors.items) (slice_ge
 
 -- the block may write the variable
 abbrev pub writes_at : List Block → ℕ → ℕ → Bool
-writes_at blocks variable at = option_map_or (λ b. list_any (λ w. w == variable) b.writes.items) (slice_get blocks at) false
+writes_at blocks variable at =
+    option_map_or (λ b. list_any (λ w. w == variable) b.writes.items) (slice_get blocks at) false
 
 -- some block from which this one is entered may write it
 abbrev pub is_written : List Block → Point → Bool
@@ -27,7 +28,8 @@ abbrev pub needs_of : List Block → Point → Needs
 needs_of blocks point = if is_written blocks point then NeedsAll else NeedsAny
 
 abbrev pub questions_of : List Block → Point → List (Question Point)
-questions_of blocks point = if is_written blocks point then [] else map (asks point.variable) (predecessors_of blocks point.block)
+questions_of blocks point =
+    if is_written blocks point then [] else map (asks point.variable) (predecessors_of blocks point.block)
 
 -- no block has more predecessors than all have together
 abbrev pub most_predecessors : List Block → ℕ

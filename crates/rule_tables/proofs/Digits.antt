@@ -21,7 +21,8 @@ pow_more : (i n d : ℕ) → n < 10 ^ i → d < 10 → n * 10 + d < 10 ^ (i + 1)
 pow_more i n d h l = rw add-one (omega (arith, pow-suc 10 i))
 
 -- one digit more
-pub read_more : (word : List ℕ) (i depth d n : ℕ) → IsReadTo word i depth → i < length word → is_ascii_digit (get_or word i 0) ≡ true → d ≡ get_or word i 0 - 48 → n ≡ depth * 10 + d → IsReadTo word (i + 1) n
+pub read_more : (word : List ℕ) (i depth d n : ℕ) → IsReadTo word i depth → i < length word
+    → is_ascii_digit (get_or word i 0) ≡ true → d ≡ get_or word i 0 - 48 → n ≡ depth * 10 + d → IsReadTo word (i + 1) n
 read_more word i depth d n so_far l is_digit e f =
     let v = value_of_digit (get_or word i 0) is_digit in
     let more = digits_value_more 10 word i l in

@@ -1,5 +1,4 @@
 pub mod Steps
-pub mod Marked
 pub mod Digits
 pub mod Questions
 pub mod TableLemmas

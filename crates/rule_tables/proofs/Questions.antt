@@ -12,7 +12,8 @@ pub record AreReadTo (words left : List (List ℕ)) (questions : List NamedQuest
   pub are_questions : AllZip IsQuestion read questions
 
 module _ {A B : Type 0} (R : A → B → Type 0) where
-  pub AllZip-append_one : (xs : List A) (ys : List B) (x : A) (y : B) → AllZip R xs ys → R x y → AllZip R (xs ++ x ∷ []) (ys ++ y ∷ [])
+  pub AllZip-append_one : (xs : List A) (ys : List B) (x : A) (y : B) → AllZip R xs ys → R x y
+      → AllZip R (xs ++ x ∷ []) (ys ++ y ∷ [])
   AllZip-append_one [] [] x y h r = (r, tt)
   AllZip-append_one [] (z ∷ ys) x y h r = absurd h
   AllZip-append_one (w ∷ xs) [] x y h r = absurd h
@@ -25,17 +26,21 @@ module _ {A B : Type 0} (R : A → B → Type 0) where
   AllZip-inside (w ∷ xs) x rest (z ∷ ys) h = AllZip-inside xs x rest ys h.1
 
 -- one word more
-pub read_more : (words left rest : List (List ℕ)) (questions all : List Question) (word : List ℕ) (question : Question) → AreReadTo words left (map named questions) → left ≡ word ∷ rest →
+pub read_more : (words left rest : List (List ℕ)) (questions all : List Question) (word : List ℕ)
+    (question : Question) → AreReadTo words left (map named questions) → left ≡ word ∷ rest →
     IsQuestion word (named question) → all ≡ questions ++ question ∷ [] → AreReadTo words rest (map named all)
 read_more words left rest questions all word question so_far e is pushed = record {
   read = so_far.read ++ word ∷ [];
   whole = so_far.whole ∙ ap (λ ws. so_far.read ++ ws) e ∙ sym (append_assoc so_far.read (word ∷ []) rest);
-  are_questions = rw (pushed, map-append) (AllZip-append_one IsQuestion so_far.read (map named questions) word (named question) so_far.are_questions is);
+  are_questions = rw (pushed, map-append)
+      (AllZip-append_one IsQuestion so_far.read (map named questions) word (named question) so_far.are_questions is);
 }
 
 -- a word that is no question
-pub refused : (words left rest : List (List ℕ)) (questions : List NamedQuestion) (word : List ℕ) → AreReadTo words left questions → left ≡ word ∷ rest → ((q : NamedQuestion) → IsQuestion word q → ⊥) →
+pub refused : (words left rest : List (List ℕ)) (questions : List NamedQuestion) (word : List ℕ) →
+    AreReadTo words left questions → left ≡ word ∷ rest → ((q : NamedQuestion) → IsQuestion word q → ⊥) →
     (all : List NamedQuestion) → AllZip IsQuestion words all → ⊥
 refused words left rest questions word so_far e none all h =
-    let w = AllZip-inside IsQuestion so_far.read word rest all (subst (λ ws. AllZip IsQuestion ws all) (so_far.whole ∙ ap (λ ws. so_far.read ++ ws) e) h) in
+    let w = AllZip-inside IsQuestion so_far.read word rest all
+    (subst (λ ws. AllZip IsQuestion ws all) (so_far.whole ∙ ap (λ ws. so_far.read ++ ws) e) h) in
     none w.0 w.1

@@ -1,10 +1,12 @@
 -- The rows of one goal among those of all goals.
-use Rattle.std.proofs.Common.{◌≡◌, ℕ, ◌+◌, ◌-◌, ◌<◌, ◌≤◌, List, [], length, take, drop, get_or, Option, Some, None, refl, ap, sym, ◌∙◌, arith}
+use Rattle.std.proofs.Common.{◌≡◌, ℕ, ◌+◌, ◌-◌, ◌<◌, ◌≤◌, List, [], length, take, drop, get_or, Option, Some, None}
+use Rattle.std.proofs.Common.{refl, ap, sym, ◌∙◌, arith}
 use Rattle.std.specs.Prelude.{slice_get}
 use Rattle.std.proofs.lemmas.Option.{slice_get-get_or, slice_get_past}
 use Rattle.rule_tables.specs.Words.{AreStarts, Row, rows_at, rows_between}
 
-module _ (starts : List ℕ) (rows : List Row) (n end : ℕ) (inside : n + 1 < length starts) (is : end ≡ get_or starts (n + 1) end) where
+module _ (starts : List ℕ) (rows : List Row) (n end : ℕ) (inside : n + 1 < length starts)
+    (is : end ≡ get_or starts (n + 1) end) where
   start_is : slice_get starts n ≡ Some (get_or starts n 0)
   start_is = slice_get-get_or starts n 0 (omega arith)
 
@@ -24,4 +26,5 @@ none_between rows (Some start) = refl
 
 -- a goal behind the last one has none
 pub no_rows : (starts : List ℕ) (rows : List Row) (n : ℕ) → length starts ≤ n + 1 → [] ≡ rows_at starts rows n
-no_rows starts rows n past = sym (ap (rows_between rows (slice_get starts n)) (slice_get_past starts (n + 1) past) ∙ none_between rows (slice_get starts n))
+no_rows starts rows n past = sym (ap (rows_between rows (slice_get starts n)) (slice_get_past starts (n + 1) past)
+    ∙ none_between rows (slice_get starts n))

@@ -1,5 +1,6 @@
 -- What a program's exit status says of what it came to.
-use Rattle.std.proofs.Common.{◌≡◌, ◌≤◌, ◌<◌, ◌==◌, ℕ, Bool, true, false, List, Option, Some, None, Result, Ok, Err, arith, refl}
+use Rattle.std.proofs.Common.{◌≡◌, ◌≤◌, ◌<◌, ◌==◌, ℕ, Bool, true, false, List, Option, Some, None, Result, Ok, Err}
+use Rattle.std.proofs.Common.{arith, refl}
 use Rattle.std.specs.Prelude.{IfOk, IfSome, OnErr, OnOk}
 use Rattle.rule_tables.specs.Words.{IsFirstBadLine}
 use Rattle.rule_tables.specs.Stop.{status_after}
@@ -29,7 +30,8 @@ told_by_status P (Err InputOrOutput) status is told low = absurd (omega arith)
 told_by_status P (Err Memory) status is told low = absurd (omega arith)
 
 module _ (P : Type 0) where
-  pub done_by_status : (came : Result Bool Stop) (status : ℕ) → status ≡ status_after came → OnOk came P → status ≤ 1 → P
+  pub done_by_status : (came : Result Bool Stop) (status : ℕ)
+      → status ≡ status_after came → OnOk came P → status ≤ 1 → P
   done_by_status (Ok true) status is done low = done
   done_by_status (Ok false) status is done low = done
   done_by_status (Err (BadLine n)) status is done low = absurd (omega arith)
@@ -37,7 +39,8 @@ module _ (P : Type 0) where
   done_by_status (Err Memory) status is done low = absurd (omega arith)
 
   -- 3 and 4 tell that it did not
-  pub stopped_by_status : (came : Result Bool Stop) (status : ℕ) → status ≡ status_after came → OnErr came P → 2 < status → P
+  pub stopped_by_status : (came : Result Bool Stop) (status : ℕ)
+      → status ≡ status_after came → OnErr came P → 2 < status → P
   stopped_by_status (Ok true) status is stopped high = absurd (omega arith)
   stopped_by_status (Ok false) status is stopped high = absurd (omega arith)
   stopped_by_status (Err stop) status is stopped high = stopped
@@ -55,4 +58,5 @@ pub bad_line_by_status : (a : Option (List ℕ)) (came : Result Bool Stop) (stat
     ((n : ℕ) → came ≡ Err (BadLine n) → IfSome a (λ bytes. IsFirstBadLine bytes n)) → status ≡ 2 →
     IfSome a (λ bytes. (m : ℕ) × IsFirstBadLine bytes m)
 bad_line_by_status a came status is bad =
-    bad_by_status (IfSome a (λ bytes. (m : ℕ) × IsFirstBadLine bytes m)) came status is (λ n e. known_bad_line a n (bad n e))
+    bad_by_status (IfSome a (λ bytes. (m : ℕ) × IsFirstBadLine bytes m)) came status is
+    (λ n e. known_bad_line a n (bad n e))

@@ -1,12 +1,12 @@
 -- The candidates of a goal.
-use Rattle.std.specs.Prelude.{Bool, List, map, take, drop}
+use Rattle.std.specs.Prelude.{List, map, take, drop}
+use Rattle.candidate_lists.specs.Candidate as lists
 use Rattle.rule_tables.specs.declared.rules.Asking.{Asking}
 use Rattle.rule_tables.specs.declared.candidates.Row.{Row}
 
 -- one way in which a goal may hold: where all its questions do
-pub record Candidate : Type 0 where
-  pub is_marked : Bool
-  pub questions : List Asking
+abbrev pub Candidate : Type 0
+Candidate = lists.Candidate Asking
 
 -- the candidate of a row, where these are the questions of the whole table
 abbrev pub candidate_with : List Asking → Row → Candidate

@@ -46,7 +46,8 @@ IsPassedOver [] = Unit {0}
 IsPassedOver (word ∷ words) = (rest : List ℕ) × (word ≡ 35 ∷ rest)
 
 -- the words are `rule HEAD = QUESTION ..`
-pub record IsRule (words : List (List ℕ)) (is_marked : Bool) (name : List ℕ) (questions : List NamedQuestion) : Type 0 where
+pub record IsRule (words : List (List ℕ)) (is_marked : Bool) (name : List ℕ)
+    (questions : List NamedQuestion) : Type 0 where
   pub asked : List (List ℕ)
   pub spelled : words ≡ codes "rule" ∷ head_word is_marked name ∷ codes "=" ∷ asked
   pub is_name : IsName name

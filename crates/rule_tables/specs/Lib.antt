@@ -1,7 +1,6 @@
 pub mod Rules
 pub mod Table
 pub mod Frame
-pub mod Packed
 pub mod Candidate
 pub mod Starts
 pub mod DraftRule
@@ -13,6 +12,5 @@ pub mod Words
 pub mod Question
 pub mod Line
 pub mod Text
-pub mod Laws
 pub mod Below
 pub mod Stop

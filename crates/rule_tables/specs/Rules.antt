@@ -1,6 +1,7 @@
 -- What a table of rules says of goals.
-use Rattle.std.specs.Prelude.{ℕ, List, map, Option, slice_get, Contains}
-use Rattle.rule_tables.specs.Below.{Question, IsWithin, Overlap}
+use Rattle.std.specs.Prelude.{ℕ, List, Option, slice_get}
+use Rattle.candidate_lists.specs.Candidate as lists
+use Rattle.rule_tables.specs.Below.{Question}
 use Rattle.rule_tables.specs.declared.rules.Goal.{Goal}
 use Rattle.rule_tables.specs.declared.rules.Asking.{Asking}
 use Rattle.rule_tables.specs.declared.rules.Rules.{Rules}
@@ -16,7 +17,7 @@ abbrev pub question_of : Asking → Question Goal
 question_of a = record { kind = a.kind; goal = a.goal }
 
 abbrev pub asked_by : Candidate → List (Question Goal)
-asked_by c = map question_of c.questions
+asked_by = lists.asked_by question_of
 
 -- the names that the table knows, in the order of their numbers
 abbrev pub names_of : Rules → List (List ℕ)
@@ -32,14 +33,13 @@ questions_of rules = rules.questions.items
 
 -- a goal without rules has no candidates
 abbrev pub candidates_of : Rules → Goal → List Candidate
-candidates_of rules goal = candidates_with rules.askings.items (rows_at rules.starts.items rules.rows.items (number_of goal))
+candidates_of rules goal =
+    candidates_with rules.askings.items (rows_at rules.starts.items rules.rows.items (number_of goal))
 
 -- some candidate has all its questions among these
-pub record Proves (rules : Rules) (goal : Goal) (held : List (Question Goal)) : Type 0 where
-  pub candidate : Candidate
-  pub is_candidate : Contains (candidates_of rules goal) candidate
-  pub within : IsWithin (asked_by candidate) held
+abbrev pub Proves : Rules → Goal → List (Question Goal) → Type 0
+Proves rules goal = lists.Proves question_of (candidates_of rules goal)
 
 -- each candidate has a question among these
 abbrev pub Refutes : Rules → Goal → List (Question Goal) → Type 0
-Refutes rules goal failed = (candidate : Candidate) → Contains (candidates_of rules goal) candidate → Overlap (asked_by candidate) failed
+Refutes rules goal = lists.Refutes question_of (candidates_of rules goal)

@@ -12,4 +12,5 @@ rows_at starts rows n = rows_between rows (slice_get starts n) (slice_get starts
 
 -- no goal's rows end before they start, or behind the last of so many rows
 abbrev pub AreStarts : List ℕ → ℕ → Type 0
-AreStarts starts count = (n start end : ℕ) → slice_get starts n ≡ Some start → slice_get starts (n + 1) ≡ Some end → (start ≤ end) × (end ≤ count)
+AreStarts starts count = (n start end : ℕ) → slice_get starts n ≡ Some start
+    → slice_get starts (n + 1) ≡ Some end → (start ≤ end) × (end ≤ count)

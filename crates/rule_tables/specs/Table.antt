@@ -28,7 +28,8 @@ pub record NamedCandidate : Type 0 where
 -- the candidate of a rule of this name
 abbrev pub candidate_in : List ℕ → Statement → Option NamedCandidate
 candidate_in name Nothing = None
-candidate_in name (Rule is_marked head questions) = if bytes_eq head name then Some (record { is_marked = is_marked; questions = questions }) else None
+candidate_in name (Rule is_marked head questions) =
+    if bytes_eq head name then Some (record { is_marked = is_marked; questions = questions }) else None
 candidate_in name (Ask depth asked) = None
 
 -- the depth and the name of a question to be answered
@@ -60,5 +61,6 @@ pub record IsToBeAnswered (names : List (List ℕ)) (question : ℕ × Goal) (wr
 -- those to be answered, all in order.
 pub record IsTableOf (statements : List Statement) (rules : Rules) : Type 0 where
   pub names : names_of rules ≡ first_mentions (flat_map names_in statements)
-  pub candidates : (goal : Goal) (name : List ℕ) → name_of rules goal ≡ Some name → AllZip (IsCandidate (names_of rules)) (candidates_of rules goal) (filter_map (candidate_in name) statements)
+  pub candidates : (goal : Goal) (name : List ℕ) → name_of rules goal ≡ Some name
+      → AllZip (IsCandidate (names_of rules)) (candidates_of rules goal) (filter_map (candidate_in name) statements)
   pub questions : AllZip (IsToBeAnswered (names_of rules)) (questions_of rules) (filter_map question_in statements)

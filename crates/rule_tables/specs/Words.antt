@@ -1,12 +1,9 @@
 -- The words of this crate, from one place.
-pub use Rattle.rule_tables.specs.Frame.{asking_in, asking_next, entering_next, ignoring, marked_from, questions_left}
-pub use Rattle.rule_tables.specs.Frame.{script_of, State, state_after, state_with, steps_left, steps_of, steps_within, with_answer}
-pub use Rattle.rule_tables.specs.Frame.{with_ignored}
+pub use Rattle.rule_tables.specs.Frame.{steps_of, steps_within}
 pub use Rattle.rule_tables.specs.Grammar.{Ask, IsDepth, IsMalformed, IsQuestion, letter_of, NamedQuestion}
 pub use Rattle.rule_tables.specs.Grammar.{Nothing, Rule, Say, Says, Statement}
 pub use Rattle.line_texts.specs.Lines.{lines_of}
 pub use Rattle.line_texts.specs.LineWords.{words_left}
-pub use Rattle.rule_tables.specs.Laws.Runs.{request_after-is}
 pub use Rattle.rule_tables.specs.Line.{statement_of}
 pub use Rattle.line_texts.specs.Names.{with_name}
 pub use Rattle.rule_tables.specs.Question.{named}

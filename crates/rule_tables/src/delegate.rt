@@ -2,10 +2,11 @@
 ghost use Rattle.std.specs.Prelude.{◌≡◌};
 ghost use Rattle.std.proofs.Common.{rules};
 
-use crate::frame::State;
 use crate::rules::{Goal, Rules};
+use candidate_lists::{CandidateFrame, CandidateLists};
 use delegate_parts::{DelegateOf, Frames, Outcome, Outcomes};
 use search_context::context::{Cx, NoMemory, Reply, Request, Verdict};
+use search_context::path::PathKind;
 
 /// What lends a table of rules, as a reference does.
 pub trait LendsRules: Copy {
@@ -35,8 +36,8 @@ pub struct Table<T> {
 impl<T: LendsRules> Cx for Table<T> {
     ghost use Rattle.delegate_parts.specs.Laws as laws;
     ghost use Rattle.delegate_parts.specs.Outcome as outcomes;
-    ghost use Rattle.rule_tables.specs.Rules.{Proves, Refutes, number_of};
-    ghost use Rattle.rule_tables.specs.Laws.Meanings as meanings;
+    ghost use Rattle.candidate_lists.specs.Laws.Meanings as meanings;
+    ghost use Rattle.rule_tables.specs.Rules.{Proves, Refutes, candidates_of, number_of, question_of};
 
     type Input = Goal;
 
@@ -56,11 +57,11 @@ impl<T: LendsRules> Cx for Table<T> {
 
     ghost token = { λ cx goal. number_of goal };
 
-    ghost proves_more = { λ cx. meanings.Proves-more (T.rules_of cx.lender) };
+    ghost proves_more = { λ cx goal. meanings.Proves-more question_of (candidates_of (T.rules_of cx.lender) goal) };
 
-    ghost refutes_more = { λ cx. meanings.Refutes-more (T.rules_of cx.lender) };
+    ghost refutes_more = { λ cx goal. meanings.Refutes-more question_of (candidates_of (T.rules_of cx.lender) goal) };
 
-    ghost clash = { λ cx. meanings.clash (T.rules_of cx.lender) };
+    ghost clash = { λ cx goal. meanings.clash question_of (candidates_of (T.rules_of cx.lender) goal) };
 
     ghost one_sort = { laws.one_sort };
 
@@ -83,13 +84,41 @@ impl<T: LendsRules> Outcomes for Table<T> {
     ghost same_verdicts = { own_verdicts };
 }
 
-/// A goal that is worked out.
-#[derive(Drop)]
-pub struct TableFrame<T> {
-    lender: T,
-    goal: Goal,
-    state: State,
+impl<T: LendsRules> CandidateLists for Table<T> {
+    ghost use Rattle.rule_tables.specs.Frame.{steps_within};
+    ghost use Rattle.rule_tables.specs.Rules as table;
+    ghost use Rattle.rule_tables.specs.Standing.{candidates_in};
+    ghost use Rattle.rule_tables.specs.declared.rules.Asking as asking;
+
+    type Input = Goal;
+
+    ghost Asking = { asking.Asking };
+
+    ghost question_of = { table.question_of };
+
+    ghost candidates_of = { candidates_in T.rules_of };
+
+    ghost most = { λ cx. steps_within (T.rules_of cx.lender) };
+
+    ghost same_input = { Prim.search rules };
+
+    // These two are called in several places of a step, and so not inlined unasked.
+    #[inline(always)]
+    fn mark(self, goal: Goal, candidate: usize) -> Option<bool> {
+        let candidate = self.lender.rules().candidates(goal).get(candidate)?;
+        Some(candidate.is_marked())
+    }
+
+    #[inline(always)]
+    fn question(self, goal: Goal, candidate: usize, place: usize) -> Option<(PathKind, Goal)> {
+        let candidate = self.lender.rules().candidates(goal).get(candidate)?;
+        let asking = candidate.question(place)?;
+        Some((asking.kind, asking.goal))
+    }
 }
+
+/// A goal that is worked out.
+pub type TableFrame<T> = CandidateFrame<Table<T>>;
 
 /// The delegate of the rules that a `T` lends.
 pub type RulesDelegate<T, const LIMIT: usize, const PROVISIONAL: usize> = DelegateOf<
@@ -108,9 +137,10 @@ pub type TableDelegate<'a, const LIMIT: usize, const PROVISIONAL: usize> = Rules
 
 impl<T: LendsRules> Frames for Table<T> {
     ghost use Rattle.std.specs.Prelude.{true};
+    ghost use Rattle.candidate_lists.specs.Laws.Runs as runs;
     ghost use Rattle.rule_tables.specs.Frame.{steps_within};
+    ghost use Rattle.rule_tables.specs.Rules.{candidates_of, question_of};
     ghost use Rattle.rule_tables.specs.Standing.{FrameStands, table_script, frame_left};
-    ghost use Rattle.rule_tables.specs.Laws.Runs as runs;
 
     type Cx = Table<T>;
 
@@ -128,16 +158,12 @@ impl<T: LendsRules> Frames for Table<T> {
 
     ghost width = { λ cx. steps_within (T.rules_of cx.lender) };
 
-    ghost yes_is_proved = { λ cx. runs.yes_is_proved (T.rules_of cx.lender) };
+    ghost yes_is_proved = { λ cx goal. runs.yes_is_proved question_of (candidates_of (T.rules_of cx.lender) goal) };
 
-    ghost no_is_refuted = { λ cx. runs.no_is_refuted (T.rules_of cx.lender) };
+    ghost no_is_refuted = { λ cx goal. runs.no_is_refuted question_of (candidates_of (T.rules_of cx.lender) goal) };
 
     fn start(cx: Table<T>, input: Goal) -> Result<TableFrame<T>, NoMemory> {
-        Ok(TableFrame {
-            lender: cx.lender,
-            goal: input,
-            state: State::new(),
-        })
+        Ok(CandidateFrame::new(cx, input))
     }
 
     // A search steps frames of runs, and of replays. What is called in two places is not inlined unasked, and that made
@@ -147,8 +173,6 @@ impl<T: LendsRules> Frames for Table<T> {
         frame: &mut TableFrame<T>,
         reply: Reply<Outcome>,
     ) -> Result<Request<Goal, Outcome>, NoMemory> {
-        let candidates = frame.lender.rules().candidates(frame.goal);
-        frame.state.receive(&candidates, reply);
-        Ok(frame.state.request())
+        Ok(frame.step(reply))
     }
 }

@@ -1,5 +1,5 @@
 //! Tables of rules as a delegate of the goal search. The results of goals and what counts the frames are those of
-//! `delegate_parts`.
+//! `delegate_parts`; the frames, and the laws on what they do, are those of `candidate_lists`.
 //!
 //! | File of `specs/` | Has |
 //! |---|---|
@@ -10,14 +10,12 @@
 //! | `Candidate`, `Starts` | candidates, and how a table keeps them |
 //! | `Draft`, `DraftRule` | a table that is being read |
 //! | `Groups` | how the rows of its rules are put goal by goal |
-//! | `Frame`, `Standing` | the frame of a goal, and where it stands |
-//! | `Laws` | the laws of the delegate, with their proofs |
+//! | `Frame`, `Standing` | the frame of a goal, which is that of `candidate_lists`, and where it stands |
 #![tactic(auto)]
 
 mod candidates;
 pub mod delegate;
 mod draft;
-mod frame;
 mod reading;
 pub mod rules;
 mod stop;

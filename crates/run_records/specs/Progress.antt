@@ -1,11 +1,17 @@
 -- What a run has done so far, as its record has it. The replies stand with the oldest first.
-use Rattle.std.specs.Prelude.{◌≡◌, ◌↔◌, ℕ, nat_lt, zero, suc, IsTrue, IsSome, Bool, true, false, ◌&&◌, if◌then◌else◌, List, [], ◌∷◌, ◌++◌, map, filter, length, reverse, slice_set, Option, None, Some, Contains}
-use Rattle.run_records.specs.Below.{Request, Evaluate, EnterCandidate, FinishCandidate, Ignore, Reply, Begin, Answer, Noted, Verdict, Yes, No, Neither, NodeId, Edge, PathKind, Question, question_of, Asked, Progress, request_after, progress_after, counted_by, ignored_by, is_ignored, IsInOrder, Verdicts, Done, IsFitting}
+use Rattle.std.specs.Prelude.{◌≡◌, ◌↔◌, ℕ, nat_lt, zero, suc, IsTrue, IsSome, Bool, true, false, ◌&&◌, if◌then◌else◌}
+use Rattle.std.specs.Prelude.{List, [], ◌∷◌, ◌++◌, map, filter, length, reverse, slice_set, Option, None}
+use Rattle.std.specs.Prelude.{Some, Contains}
+use Rattle.run_records.specs.Below.{Request, Evaluate, EnterCandidate, FinishCandidate, Ignore, Reply, Begin, Answer}
+use Rattle.run_records.specs.Below.{Noted, Verdict, Yes, No, Neither, NodeId, Edge, PathKind, Question, question_of}
+use Rattle.run_records.specs.Below.{Asked, Progress, request_after, progress_after, counted_by, ignored_by, is_ignored}
+use Rattle.run_records.specs.Below.{IsInOrder, Verdicts, Done, IsFitting}
 use Rattle.run_records.specs.declared.progress.DefiniteAnswer.{DefiniteAnswer}
 use Rattle.run_records.specs.declared.progress.Beginning.{Beginning}
 use Rattle.run_records.specs.declared.progress.Beginning.TheVariants.{Nothing, Begun, InCandidate}
 
--- the replies, the last request, the definite answers, whether a candidate is open, and for each finished candidate whether it is ignored
+-- the replies, the last request, the definite answers, whether a candidate is open, and for each finished candidate
+-- whether it is ignored
 pub record RunRecord (I R : Type 0) : Type 0 where
   pub replies : List (Reply R)
   pub request : Option (Request I R)
@@ -86,7 +92,8 @@ module _ {I R : Type 0} where
 
   -- the record once this request was answered
   abbrev pub answered : RunRecord I R → Option (Request I R) → Verdict → Option NodeId → RunRecord I R
-  answered p (Some (Evaluate kind input)) verdict target = record p { answers = answers_after p kind input verdict target }
+  answered p (Some (Evaluate kind input)) verdict target =
+      record p { answers = answers_after p kind input verdict target }
   answered p (Some EnterCandidate) _ _ = record p { is_open = true }
   answered p (Some FinishCandidate) _ _ = record p { is_open = false; ignored = p.ignored ++ false ∷ [] }
   answered p (Some (Ignore n)) _ _ = record p { ignored = slice_set p.ignored n true }
@@ -109,7 +116,8 @@ module _ {I R : Type 0} where
   abbrev pub fault_of : RunRecord I R → Request I R → Option ℕ
   fault_of p EnterCandidate = if p.is_open then Some 1 else None
   fault_of p FinishCandidate = if p.is_open then None else Some 2
-  fault_of p (Ignore n) = if nat_lt n (length p.ignored) then (if ignored_by p.ignored n then Some 4 else None) else Some 3
+  fault_of p (Ignore n) =
+      if nat_lt n (length p.ignored) then (if ignored_by p.ignored n then Some 4 else None) else Some 3
   fault_of p _ = None
 
   -- the edges that a result of this verdict rests on, in the order of asking
@@ -130,21 +138,24 @@ pub record Agrees {I R : Type 0} (says : Verdicts R) (p : RunRecord I R) (done :
 
 -- The record is that of a run of the script that has had these replies, the newest first, and has made no request out
 -- of order.
-pub record Records {I R : Type 0} (says : Verdicts R) (script : List (Reply R) → Request I R) (p : RunRecord I R) (replies : List (Reply R)) : Type 0 where
+pub record Records {I R : Type 0} (says : Verdicts R) (script : List (Reply R) → Request I R) (p : RunRecord I R)
+    (replies : List (Reply R)) : Type 0 where
   pub replies_are : reverse p.replies ≡ replies
   pub request_is : p.request ≡ request_after script replies
   pub in_order : IsInOrder script replies
   pub agrees : Agrees says p (progress_after script replies)
 
 -- the record is that of a run that came to this result
-pub record CameTo {I R : Type 0} (says : Verdicts R) (script : List (Reply R) → Request I R) (p : RunRecord I R) (r : R) : Type 0 where
+pub record CameTo {I R : Type 0} (says : Verdicts R) (script : List (Reply R) → Request I R)
+    (p : RunRecord I R) (r : R) : Type 0 where
   pub replies : List (Reply R)
   pub is_fitting : IsFitting script replies
   pub is_done : request_after script replies ≡ Some (Done r)
   pub on_record : Records says script p replies
 
 -- the verdict is that of the result, and a definite one has its node
-pub record IsSortedAs {R : Type 0} (says : Verdicts R) (r : R) (verdict : Verdict) (target : Option NodeId) : Type 0 where
+pub record IsSortedAs {R : Type 0} (says : Verdicts R) (r : R) (verdict : Verdict)
+    (target : Option NodeId) : Type 0 where
   pub yes : (verdict ≡ Yes) ↔ IsTrue (says.is_yes r)
   pub no : (verdict ≡ No) ↔ IsTrue (says.is_no r)
   pub yes_node : IsTrue (says.is_yes r) → IsSome target
@@ -156,7 +167,8 @@ IsReplySorted says (Answer r) verdict target = IsSortedAs says r verdict target
 IsReplySorted says _ verdict target = Unit {0}
 
 -- the edge is that of an answer with this verdict outside ignored candidates
-pub record IsEdgeOfAnswer {I : Type 0} (answers : List (DefiniteAnswer I)) (ignored : List Bool) (verdict : Verdict) (e : Edge I) : Type 0 where
+pub record IsEdgeOfAnswer {I : Type 0} (answers : List (DefiniteAnswer I)) (ignored : List Bool)
+    (verdict : Verdict) (e : Edge I) : Type 0 where
   pub answer : DefiniteAnswer I
   pub is_in : Contains answers answer
   pub verdict_is : answer.verdict ≡ verdict
@@ -164,7 +176,8 @@ pub record IsEdgeOfAnswer {I : Type 0} (answers : List (DefiniteAnswer I)) (igno
   pub kept : counted_by ignored answer.candidate ≡ true
 
 -- the answers are those of the record and one more, to its last request
-pub record KeepsAnswer {I R : Type 0} (p : RunRecord I R) (verdict : Verdict) (target : Option NodeId) (answers : List (DefiniteAnswer I)) : Type 0 where
+pub record KeepsAnswer {I R : Type 0} (p : RunRecord I R) (verdict : Verdict) (target : Option NodeId)
+    (answers : List (DefiniteAnswer I)) : Type 0 where
   pub kind : PathKind
   pub input : I
   pub node : NodeId

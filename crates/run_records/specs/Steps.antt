@@ -1,6 +1,7 @@
 -- The step of a run's frame.
 use Rattle.std.specs.Prelude.{◌≡◌, ℕ, ◌<◌, ◌↔◌, IsTrue, None, Some}
-use Rattle.run_records.specs.Below.{DelegateOf, CxOf, Request, Reply, Begin, Answer, Noted, Fault, Memory, Protocol, Verdict, Yes, No, Neither, Steps, Verdicts, verdicts}
+use Rattle.run_records.specs.Below.{DelegateOf, CxOf, Request, Reply, Begin, Answer, Noted, Fault, Memory, Protocol}
+use Rattle.run_records.specs.Below.{Verdict, Yes, No, Neither, Steps, Verdicts, verdicts}
 use Rattle.run_records.specs.Progress.{RunRecord, received, requested, fault_of}
 use Rattle.run_records.specs.declared.runs.Received.{Received}
 use Rattle.run_records.specs.declared.runs.Run.{Run}
@@ -9,7 +10,8 @@ use Rattle.run_records.specs.declared.runs.Run.{Run}
 abbrev pub IsVerdict : {R : Type 0} → Verdicts R → Reply R → Verdict → Type 0
 IsVerdict says Begin verdict = verdict ≡ Neither
 IsVerdict says Noted verdict = verdict ≡ Neither
-IsVerdict says (Answer r) verdict = ((verdict ≡ Yes) ↔ IsTrue (says.is_yes r)) × ((verdict ≡ No) ↔ IsTrue (says.is_no r))
+IsVerdict says (Answer r) verdict =
+    ((verdict ≡ Yes) ↔ IsTrue (says.is_yes r)) × ((verdict ≡ No) ↔ IsTrue (says.is_no r))
 
 module _ {D C V P F I R A T : Type 0} (G : DelegateOf D C V P F I R A T) (X : CxOf C I R A T) (cx : C) where
   -- the run with the reply on record
@@ -32,4 +34,5 @@ module _ {D C V P F I R A T : Type 0} (G : DelegateOf D C V P F I R A T) (X : Cx
     RunOutOfOrder :
         (frame : F) (verdict : Verdict) (request : Request I R) (number : ℕ)
         → IsVerdict (verdicts X) given.reply verdict → Steps G.stands G.script old.frame given.reply request frame
-        → fault_of (received_by old given verdict) request ≡ Some number → fault ≡ Protocol number → IsRunFault given old fault
+        → fault_of (received_by old given verdict) request ≡ Some number
+        → fault ≡ Protocol number → IsRunFault given old fault

@@ -1,33 +1,41 @@
 -- No goal has both a proof graph and a refutation graph. By the clash law the two have an edge of one question at
 -- each pair of nodes that share a goal, so both can be walked in step. Some pair comes twice, which closes a walk in
 -- each, and both walks have one kind.
-use Rattle.std.proofs.Common.{◌≡◌, ℕ, zero, suc, ◌+◌, ◌-◌, ◌<◌, List, [], ◌∷◌, ◌++◌, map, length, slice_get, Option, Some, option_map, Contains, refl, sym, ◌∙◌, ap, ap₂, subst, arith}
+use Rattle.std.proofs.Common.{◌≡◌, ℕ, zero, suc, ◌+◌, ◌-◌, ◌<◌, List, [], ◌∷◌, ◌++◌, map, length, slice_get, Option}
+use Rattle.std.proofs.Common.{Some, option_map, Contains, refl, sym, ◌∙◌, ap, ap₂, subst, arith}
 use Rattle.std.proofs.lemmas.Option.{slice_get_within}
 pub use Rattle.open_graphs.proofs.Lists.{mapped_some}
 pub use Rattle.open_graphs.proofs.Members.{Contains-filtered, Contains-map, Contains-mapped, filtered_member}
 use Rattle.search_context.specs.Below.{PathKind, Inductive, Coinductive, greater_kind}
-use Rattle.search_context.specs.Words.{Edge, Question, Overlap, GraphNode, question_of, HasGoal, HasEdge, IsWalk, IsReached, walk_kind, IsProofGraph, IsRefutationGraph}
+use Rattle.search_context.specs.Words.{Edge, Question, Overlap, GraphNode, question_of, HasGoal, HasEdge, IsWalk}
+use Rattle.search_context.specs.Words.{IsReached, walk_kind, IsProofGraph, IsRefutationGraph}
 use Rattle.search_context.proofs.Pigeonhole.{pair_twice}
 
 -- the node behind a goal
-pub goal_node : {I : Type 0} (o : Option (GraphNode I)) (goal : I) → option_map (λ n. n.goal) o ≡ Some goal → (n : GraphNode I) × (o ≡ Some n) × (n.goal ≡ goal)
+pub goal_node : {I : Type 0} (o : Option (GraphNode I)) (goal : I) → option_map (λ n. n.goal) o ≡ Some goal
+    → (n : GraphNode I) × (o ≡ Some n) × (n.goal ≡ goal)
 goal_node o goal h = mapped_some (λ n. n.goal) o goal h
 
-pub HasGoal-within : {I : Type 0} (nodes : List (GraphNode I)) (at : ℕ) (goal : I) → HasGoal nodes at goal → at < length nodes
+pub HasGoal-within : {I : Type 0} (nodes : List (GraphNode I)) (at : ℕ) (goal : I)
+    → HasGoal nodes at goal → at < length nodes
 HasGoal-within nodes at goal h = let w = goal_node (slice_get nodes at) goal h in slice_get_within nodes at w.0 w.1
 
-pub HasEdge-from : {I : Type 0} (nodes : List (GraphNode I)) (at : ℕ) (n : GraphNode I) (e : Edge I) → slice_get nodes at ≡ Some n → Contains n.edges e → HasEdge nodes at e
+pub HasEdge-from : {I : Type 0} (nodes : List (GraphNode I)) (at : ℕ) (n : GraphNode I) (e : Edge I)
+    → slice_get nodes at ≡ Some n → Contains n.edges e → HasEdge nodes at e
 HasEdge-from nodes at n e is has = rw is has
 
 -- a walk goes on by one more
-IsWalk-append : {I : Type 0} (nodes : List (GraphNode I)) (a b c : ℕ) (p q : List (Edge I)) → IsWalk nodes a p b → IsWalk nodes b q c → IsWalk nodes a (p ++ q) c
+IsWalk-append : {I : Type 0} (nodes : List (GraphNode I)) (a b c : ℕ) (p q : List (Edge I)) → IsWalk nodes a p b
+    → IsWalk nodes b q c → IsWalk nodes a (p ++ q) c
 IsWalk-append nodes a b c [] q w v = subst (λ x. IsWalk nodes x q c) (sym w) v
 IsWalk-append nodes a b c (e ∷ p) q w v = (w.0, IsWalk-append nodes e.target b c p q w.1 v)
 
-pub IsReached-step : {I : Type 0} (nodes : List (GraphNode I)) (root at : ℕ) (e : Edge I) → IsReached nodes root at → HasEdge nodes at e → IsReached nodes root e.target
+pub IsReached-step : {I : Type 0} (nodes : List (GraphNode I)) (root at : ℕ) (e : Edge I) → IsReached nodes root at
+    → HasEdge nodes at e → IsReached nodes root e.target
 IsReached-step nodes root at e w h = (w.0 ++ e ∷ [], IsWalk-append nodes root at e.target w.0 (e ∷ []) w.1 (h, refl))
 
-same_question : {I : Type 0} (e f : Edge I) (q : Question I) → question_of e ≡ q → question_of f ≡ q → question_of e ≡ question_of f
+same_question : {I : Type 0} (e f : Edge I) (q : Question I) → question_of e ≡ q
+    → question_of f ≡ q → question_of e ≡ question_of f
 same_question e f q l r = l ∙ sym r
 
 -- a kind is not both
@@ -56,10 +64,13 @@ module _ {I : Type 0} (proves refutes : I → List (Question I) → Type 0)
     right_has : HasEdge others from.right right_edge
     same : question_of left_edge ≡ question_of right_edge
 
-  step_from : (from : Pair) (n m : GraphNode I) → slice_get nodes from.left ≡ Some n → n.goal ≡ from.goal → slice_get others from.right ≡ Some m → m.goal ≡ from.goal → Step from
+  step_from : (from : Pair) (n m : GraphNode I) → slice_get nodes from.left ≡ Some n → n.goal ≡ from.goal
+      → slice_get others from.right ≡ Some m → m.goal ≡ from.goal → Step from
   step_from from n m is_n goal_n is_m goal_m =
-      let yes : proves from.goal (map question_of n.edges) = subst (λ g. proves g (map question_of n.edges)) goal_n (proof.is_shown from.left n from.left_reached is_n) in
-      let no : refutes from.goal (map question_of m.edges) = subst (λ g. refutes g (map question_of m.edges)) goal_m (refutation.is_shown from.right m from.right_reached is_m) in
+      let yes : proves from.goal (map question_of n.edges) =
+      subst (λ g. proves g (map question_of n.edges)) goal_n (proof.is_shown from.left n from.left_reached is_n) in
+      let no : refutes from.goal (map question_of m.edges) = subst (λ g. refutes g (map question_of m.edges)) goal_m
+      (refutation.is_shown from.right m from.right_reached is_m) in
       let both = clash from.goal (map question_of n.edges) (map question_of m.edges) yes no in
       let l = Contains-map question_of n.edges both.0 both.1 in
       let r = Contains-map question_of m.edges both.0 both.2 in
@@ -128,7 +139,8 @@ module _ {I : Type 0} (proves refutes : I → List (Question I) → Type 0)
       Coinductive-apart (walk_kind (left_walk i (suc n)))
       (proof.cycles (pair_at i).left (step (pair_at i)).left_edge (left_walk (suc i) n) (pair_at i).left_reached
       (subst (λ x. IsWalk nodes (pair_at i).left (left_walk i (suc n)) x) (sym l) (left_walk-is i (suc n) j e)))
-      (same_kinds i (suc n) ∙ refutation.cycles (pair_at i).right (step (pair_at i)).right_edge (right_walk (suc i) n) (pair_at i).right_reached
+      (same_kinds i (suc n) ∙ refutation.cycles (pair_at i).right (step (pair_at i)).right_edge
+      (right_walk (suc i) n) (pair_at i).right_reached
       (subst (λ x. IsWalk others (pair_at i).right (right_walk i (suc n)) x) (sym r) (right_walk-is i (suc n) j e)))
 
   pub never_both : ⊥

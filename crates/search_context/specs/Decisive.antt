@@ -28,7 +28,10 @@ module _ {R : Type 0} (says : Verdicts R) where
   AreDecided [] = Unit {0}
   AreDecided (reply ∷ earlier) = IsDecidedReply reply × AreDecided earlier
 
-  -- The scripts ask inductively and coinductively alone, and after answers that are yes or no a goal's result is one of these.
+  -- The scripts ask inductively and coinductively alone, and after answers that are yes or no a goal's
+  -- result is one of these.
   pub record IsDecisive {I : Type 0} (scripts : I → List (Reply R) → Request I R) : Type 0 where
-    pub asks : (goal asked : I) (replies : List (Reply R)) (kind : PathKind) → IsFitting (scripts goal) replies → request_after (scripts goal) replies ≡ Some (Evaluate kind asked) → IsDecidedKind kind
-    pub ends : (goal : I) (replies : List (Reply R)) (r : R) → IsFitting (scripts goal) replies → AreDecided replies → request_after (scripts goal) replies ≡ Some (Done r) → IsDefinite says r
+    pub asks : (goal asked : I) (replies : List (Reply R)) (kind : PathKind) → IsFitting (scripts goal) replies
+        → request_after (scripts goal) replies ≡ Some (Evaluate kind asked) → IsDecidedKind kind
+    pub ends : (goal : I) (replies : List (Reply R)) (r : R) → IsFitting (scripts goal) replies → AreDecided replies
+        → request_after (scripts goal) replies ≡ Some (Done r) → IsDefinite says r

@@ -16,17 +16,21 @@ pub record IsCycleResult {R : Type 0} (is_yes is_no : R → Bool) (kind : PathKi
   pub no : is_no r ≡ is_inductive kind
 
 -- the frame stands where this reply fits
-pub record CanTake {F C I R : Type 0} (stands : F → C → I → List (Reply R) → Type 0) (script : C → I → List (Reply R) → Request I R) (frame : F) (reply : Reply R) : Type 0 where
+pub record CanTake {F C I R : Type 0} (stands : F → C → I → List (Reply R) → Type 0)
+    (script : C → I → List (Reply R) → Request I R) (frame : F) (reply : Reply R) : Type 0 where
   pub cx : C
   pub goal : I
   pub replies : List (Reply R)
   pub stood : stands frame cx goal replies
   pub is_fitting : IsFitting (script cx goal) (reply ∷ replies)
 
--- wherever the frame stood and the reply fits, the request is that of the script, and the frame stands one reply further
-abbrev pub Steps : {F C I R : Type 0} → (F → C → I → List (Reply R) → Type 0) → (C → I → List (Reply R) → Request I R) → F → Reply R → Request I R → F → Type 0
+-- wherever the frame stood and the reply fits, the request is that of the script, and the frame
+-- stands one reply further
+abbrev pub Steps : {F C I R : Type 0} → (F → C → I → List (Reply R) → Type 0) → (C → I → List (Reply R) → Request I R)
+    → F → Reply R → Request I R → F → Type 0
 Steps {F} {C} {I} {R} stands script old reply request new =
-    (cx : C) (goal : I) (replies : List (Reply R)) → stands old cx goal replies → IsFitting (script cx goal) (reply ∷ replies) →
+    (cx : C) (goal : I) (replies : List (Reply R)) → stands old cx goal replies →
+    IsFitting (script cx goal) (reply ∷ replies) →
     (request ≡ script cx goal (reply ∷ replies)) × stands new cx goal (reply ∷ replies)
 
 -- the builder counts no less than it did, and records something just if it did

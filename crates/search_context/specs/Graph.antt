@@ -38,11 +38,14 @@ walk_kind walk = greatest_kind (map (λ e. e.kind) walk)
 -- What is reached from the root is closed and keeps the rule: the root has the goal, each edge leads to a
 -- node of the goal that it asks, the questions of each node's edges show its goal by the rule, and every
 -- closed walk has the kind.
-pub record IsGraph {I : Type 0} (rule : I → List (Question I) → Type 0) (kind : PathKind) (nodes : List (GraphNode I)) (root : ℕ) (goal : I) : Type 0 where
+pub record IsGraph {I : Type 0} (rule : I → List (Question I) → Type 0) (kind : PathKind) (nodes : List (GraphNode I))
+    (root : ℕ) (goal : I) : Type 0 where
   pub rooted : HasGoal nodes root goal
   pub closed : (at : ℕ) (e : Edge I) → IsReached nodes root at → HasEdge nodes at e → HasGoal nodes e.target e.input
-  pub is_shown : (at : ℕ) (n : GraphNode I) → IsReached nodes root at → slice_get nodes at ≡ Some n → rule n.goal (map question_of n.edges)
-  pub cycles : (at : ℕ) (e : Edge I) (rest : List (Edge I)) → IsReached nodes root at → IsWalk nodes at (e ∷ rest) at → walk_kind (e ∷ rest) ≡ kind
+  pub is_shown : (at : ℕ) (n : GraphNode I) → IsReached nodes root at → slice_get nodes at ≡ Some n
+      → rule n.goal (map question_of n.edges)
+  pub cycles : (at : ℕ) (e : Edge I) (rest : List (Edge I)) → IsReached nodes root at
+      → IsWalk nodes at (e ∷ rest) at → walk_kind (e ∷ rest) ≡ kind
 
 -- each goal is proved by its questions, and every cycle is coinductive
 abbrev pub IsProofGraph : {I : Type 0} → (I → List (Question I) → Type 0) → List (GraphNode I) → ℕ → I → Type 0
@@ -58,5 +61,6 @@ original_edge original e = record { kind = e.kind; input = e.input; target = ori
 
 -- Each node of the copy has the goal and the edges of its original, and its edges stay in the copy.
 pub record IsCopy {I : Type 0} (nodes copy : List (GraphNode I)) (original : ℕ → ℕ) : Type 0 where
-  pub same : (at : ℕ) (n : GraphNode I) → slice_get copy at ≡ Some n → slice_get nodes (original at) ≡ Some (record { goal = n.goal; edges = map (original_edge original) n.edges })
+  pub same : (at : ℕ) (n : GraphNode I) → slice_get copy at ≡ Some n
+      → slice_get nodes (original at) ≡ Some (record { goal = n.goal; edges = map (original_edge original) n.edges })
   pub inside : (at : ℕ) (e : Edge I) → HasEdge copy at e → e.target < length copy

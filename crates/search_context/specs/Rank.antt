@@ -9,7 +9,8 @@ use Rattle.search_context.specs.Run.{request_after, AreRepliesTo, IsFitting, IsO
 
 -- whatever is answered, each question that the script asks is one of these
 abbrev pub AsksOnly : {I R : Type 0} → (PathKind → I → Type 0) → (List (Reply R) → Request I R) → Type 0
-AsksOnly {I} {R} among script = (replies : List (Reply R)) (kind : PathKind) (goal : I) → IsFitting script replies → request_after script replies ≡ Some (Evaluate kind goal) → among kind goal
+AsksOnly {I} {R} among script = (replies : List (Reply R)) (kind : PathKind) (goal : I) → IsFitting script replies
+    → request_after script replies ≡ Some (Evaluate kind goal) → among kind goal
 
 -- questions of questions go no deeper than this
 abbrev pub IsRanked : {I R : Type 0} → (I → List (Reply R) → Request I R) → ℕ → I → Type 0
@@ -22,7 +23,8 @@ IsOrderlyTo scripts zero goal = IsOrderly (scripts goal)
 IsOrderlyTo scripts (suc n) goal = IsOrderly (scripts goal) × AsksOnly (λ _ h. IsOrderlyTo scripts n h) (scripts goal)
 
 -- some allowed answers lead to the result
-pub record IsResultOf {I R : Type 0} (allowed : I → R → Type 0) (script : List (Reply R) → Request I R) (r : R) : Type 0 where
+pub record IsResultOf {I R : Type 0} (allowed : I → R → Type 0)
+    (script : List (Reply R) → Request I R) (r : R) : Type 0 where
   pub replies : List (Reply R)
   pub is_answered : AreRepliesTo allowed script replies
   pub is_done : request_after script replies ≡ Some (Done r)

@@ -1,8 +1,10 @@
 -- Runs of a frame. A script gives the request that follows some replies, of which the newest stands first.
-use Rattle.std.specs.Prelude.{◌≡◌, ℕ, ◌+◌, ◌==◌, nat_lt, Bool, true, false, not, ◌&&◌, if◌then◌else◌, List, [], ◌∷◌, ◌++◌, map, filter, get_or, Option, None, Some, ⊤}
+use Rattle.std.specs.Prelude.{◌≡◌, ℕ, ◌+◌, ◌==◌, nat_lt, Bool, true, false, not, ◌&&◌, if◌then◌else◌, List, [], ◌∷◌}
+use Rattle.std.specs.Prelude.{◌++◌, map, filter, get_or, Option, None, Some, ⊤}
 use Rattle.std.specs.List.{list_any}
 use Rattle.search_context.specs.declared.context.Request.{Request}
-use Rattle.search_context.specs.declared.context.Request.TheVariants.{Evaluate, EnterCandidate, FinishCandidate, Ignore, Done}
+use Rattle.search_context.specs.declared.context.Request.TheVariants.{Evaluate, EnterCandidate, FinishCandidate}
+use Rattle.search_context.specs.declared.context.Request.TheVariants.{Ignore, Done}
 use Rattle.search_context.specs.declared.context.Reply.{Reply}
 use Rattle.search_context.specs.declared.context.Reply.TheVariants.{Begin, Answer, Noted}
 use Rattle.search_context.specs.Question.{Question}
@@ -24,7 +26,8 @@ IsReplyTo allowed _ _ = ⊥
 -- each reply fits the request before it, so there is none after the result
 abbrev pub AreRepliesTo : {I R : Type 0} → (I → R → Type 0) → (List (Reply R) → Request I R) → List (Reply R) → Type 0
 AreRepliesTo allowed script [] = ⊤
-AreRepliesTo allowed script (r ∷ earlier) = IsReplyTo allowed (request_after script earlier) r × AreRepliesTo allowed script earlier
+AreRepliesTo allowed script (r ∷ earlier) =
+    IsReplyTo allowed (request_after script earlier) r × AreRepliesTo allowed script earlier
 
 -- the same with any answers
 abbrev pub Fits : {I R : Type 0} → Option (Request I R) → Reply R → Type 0
@@ -58,7 +61,10 @@ open_candidate p = if p.is_open then Some p.finished else None
 -- the progress with one more request and its reply
 abbrev pub progress_with : {I R : Type 0} → Progress I R → Option (Request I R) → Reply R → Progress I R
 progress_with p (Some (Evaluate kind goal)) (Answer r) =
-    record p { asked = p.asked ++ record { question = record { kind = kind; goal = goal }; answer = r; candidate = open_candidate p } ∷ [] }
+    record p {
+      asked = p.asked
+          ++ record { question = record { kind = kind; goal = goal }; answer = r; candidate = open_candidate p } ∷ [];
+    }
 progress_with p (Some EnterCandidate) Noted = record p { is_open = true }
 progress_with p (Some FinishCandidate) Noted = record p { is_open = false; finished = p.finished + 1 }
 progress_with p (Some (Ignore n)) Noted = record p { ignored = n ∷ p.ignored }
@@ -96,7 +102,8 @@ abbrev pub IsOrderly : {I R : Type 0} → (List (Reply R) → Request I R) → T
 IsOrderly {I} {R} script = (replies : List (Reply R)) → IsFitting script replies → fault_after script replies ≡ None
 
 -- the replies lead to this result, with no request out of order
-pub record EndsIn {I R : Type 0} (script : List (Reply R) → Request I R) (replies : List (Reply R)) (r : R) : Type 0 where
+pub record EndsIn {I R : Type 0} (script : List (Reply R) → Request I R)
+    (replies : List (Reply R)) (r : R) : Type 0 where
   pub is_fitting : IsFitting script replies
   pub is_in_order : IsInOrder script replies
   pub is_done : request_after script replies ≡ Some (Done r)
@@ -108,7 +115,8 @@ is_counted ignored (Some n) = not (is_ignored ignored n)
 
 -- the questions outside ignored candidates whose answers pass the test, in the order of asking
 abbrev pub questions_answered : {I R : Type 0} → (R → Bool) → Progress I R → List (Question I)
-questions_answered test p = map (λ a. a.question) (filter (λ a. test a.answer && is_counted p.ignored a.candidate) p.asked)
+questions_answered test p =
+    map (λ a. a.question) (filter (λ a. test a.answer && is_counted p.ignored a.candidate) p.asked)
 
 -- the same where each finished candidate has a flag: whether the candidate of this number is ignored
 abbrev pub ignored_by : List Bool → ℕ → Bool

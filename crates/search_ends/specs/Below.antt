@@ -58,5 +58,6 @@ pub use Rattle.search_rules.specs.Runs.{KeepsEarlier, node_given, StayFrom}
 pub use Rattle.search_rules.specs.Runs.{runs_of}
 pub use Rattle.search_rules.specs.declared.end_of_run.Unstable.{Unstable}
 pub use Rattle.search_rules.specs.declared.end_of_run.Unstable.TheVariants.{Again, AtLimit}
-pub use Rattle.between_moves.specs.Evaluations.{ChangesCache, HasRequest, IsRight, IsRightNext, LeadsTo, Moves, Requests, StartsFrame, StopsWith}
+pub use Rattle.between_moves.specs.Evaluations.{ChangesCache, HasRequest, IsRight, IsRightNext, LeadsTo, Moves}
+pub use Rattle.between_moves.specs.Evaluations.{Requests, StartsFrame, StopsWith}
 pub use Rattle.search_state.specs.Drafts.{KeepsNoted}

@@ -106,7 +106,8 @@ fn release_scope<X: Cx, F: Drop, S: Drop>(
     requires some { 0 < length goals.now }
     requires held { HoldScopes (fates_of goals.now) scopes.old }
     ensures released { HoldsNewest (fates_of goals.now) scopes.new scopes.old }
-    ensures own { option_map (λ s. is_compared s.1.fate) (newest goals.now) ≡ Some (is_some result) }
+    ensures own { option_map (λ s. is_compared s.1.fate) (newest goals.now)
+        ≡ Some (is_some result) }
 {
     match goals.last_run().fate {
         Fate::Compared(_) => Some(scopes.release()),

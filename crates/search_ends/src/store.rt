@@ -1,9 +1,9 @@
 //! What is stored of a goal that is done.
 ghost use Rattle.std.specs.Prelude.{◌≡◌, ◌≢◌, ◌<◌, ℕ, [], Err, false, is_some, length, IfErr, IfSome, IsTrue, OnOk, OnErr};
-ghost use Rattle.search_ends.specs.Below.{highest, IfCompared, IsExpected, IsPlainTo, IsPlainValue, place_of, Memory, Success, IsStored, StoresAnswer, entry_of, verdicts};
+ghost use Rattle.search_ends.specs.Below.{highest, IfCompared, IsExpected, IsPlainTo, IsPlainValue, place_of, Memory, Success, IsStored, entry_of, verdicts};
 ghost use Rattle.search_rules.specs.Fates.{is_compared};
 ghost use Rattle.provisional_cache.specs.Provisional.{AppendsEntry};
-ghost use Rattle.search_ends.specs.Words.{ChangesResults, Fails, FailsToStore, IsStorable, MayStore, Notes, PutsAnswer, Stores};
+ghost use Rattle.search_ends.specs.Words.{Fails, FailsToStore, IsStorable, MayStore, Notes, PutsAnswer, Stores};
 
 use global_cache::GlobalCache;
 use path_kinds::path::PathKind;
@@ -111,10 +111,9 @@ fn store_for_good<D: Delegate>(
 ) -> Result<(), Fault<<D::Cx as Cx>::Input, <D::Cx as Cx>::Result>>
     requires no_heads { answer.heads ≡ [] }
     requires storable { IsStorable D.Delegate D.Cx.Cx cache.old input answer }
-    ensures stored { StoresAnswer D.Cx.Input.eq cache.old.results cache.new.results input answer }
+    ensures puts { PutsAnswer D.Cx.Input.eq input answer Fate.Stored cache.old cache.new }
     ensures is_stored { OnOk result (
         IsStored D.Cx.Input.eq (D.Cx.token cache.old.cx) cache.new.results input answer) }
-    ensures cache { ChangesResults D.Cx.Input.eq cache.old cache.new }
     ensures noted { Notes (verdicts D.Cx.Cx) D.Cx.Input.eq cache.old drafts.old result
         cache.new drafts.new }
     ensures fails { IfErr result (Fails D.Delegate D.Cx.Cx D.Cx.Input.eq answer.result cache.old

@@ -7,6 +7,7 @@ pub mod Stored
 pub mod LimitsMet
 pub mod WorkedOut
 pub mod Reaching
+pub mod Deciding
 pub mod Faults
 pub mod Left
 pub mod Lists

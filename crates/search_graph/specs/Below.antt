@@ -54,14 +54,18 @@ pub use Rattle.goal_changes.specs.declared.Next.TheVariants.{Finished, Step}
 pub use Rattle.run_records.specs.declared.runs.Received.{Received}
 pub use Rattle.run_records.specs.declared.runs.Run.{Run}
 pub use Rattle.goal_changes.specs.OpenGoal.{OpenGoal}
-pub use Rattle.between_moves.specs.Evaluations.{Awaits, ChangesCache, EndsWith, HasReply, HasRequest, IsNew, IsRight, IsRightFor}
-pub use Rattle.between_moves.specs.Evaluations.{IsRememberedWhere, IsRightNext, KeepsCache, LeadsTo, Requests, StopsWith}
+pub use Rattle.between_moves.specs.Evaluations.{Awaits, ChangesCache, EndsWith, HasReply, HasRequest, IsNew}
+pub use Rattle.between_moves.specs.Evaluations.{IsRight, IsRightFor}
+pub use Rattle.between_moves.specs.Evaluations.{IsRememberedWhere, IsRightNext, KeepsCache, LeadsTo}
+pub use Rattle.between_moves.specs.Evaluations.{Requests, StopsWith}
 pub use Rattle.search_rules.specs.Calls.{bound, Call, CallIsEnclosed, HadNoOverflow, IsCounted, limits, Outset, runs}
-pub use Rattle.search_rules.specs.Claims.{Decides, IsCaused, IsMemoryOrOrder, IsProved, IsRefuted, IsRemembered, OutOfMemory}
+pub use Rattle.search_rules.specs.Claims.{Decides, IsCaused, IsMemoryOrOrder, IsProved, IsRefuted}
+pub use Rattle.search_rules.specs.Claims.{IsRemembered, OutOfMemory}
 pub use Rattle.search_rules.specs.Decided.{IsDecided}
 pub use Rattle.search_rules.specs.Evaluating.{Begins, CallGoesOn, HasAsked, HasEnded, HasStopped, IsOnly, IsWaiting}
 pub use Rattle.search_rules.specs.Evaluating.{KeepsAnswers, Leads, seen, work_left}
-pub use Rattle.search_rules.specs.Fates.{ChangesNewest, Fated, fates_of, HasOldest, HaveExpected, IsFated, IsNewestToStore, MeetsNewest, MovesFates, NoneStored}
+pub use Rattle.search_rules.specs.Fates.{ChangesNewest, Fated, fates_of, HasOldest, HaveExpected, IsFated}
+pub use Rattle.search_rules.specs.Fates.{IsNewestToStore, MeetsNewest, MovesFates, NoneStored}
 pub use Rattle.search_rules.specs.Free.{AreFree}
 pub use Rattle.search_rules.specs.Justified.{AreJustified, IsFit, NewestAsks, OpenRun}
 pub use Rattle.search_rules.specs.Moves.{Pushes}

@@ -1,10 +1,12 @@
 -- What is left of the nodes that a call wrote.
 use Rattle.std.specs.Prelude.{◌≡◌, Bool, List, Some}
 use Rattle.search_context.specs.declared.context.Fault.TheVariants.{Conflict, Validation}
-use Rattle.search_graph.specs.Below.{Cache, CacheNode, Fault, HasGraph, NodeId, Place, stored_at, StoredResult, Verdicts}
+use Rattle.search_graph.specs.Below.{Cache, CacheNode, Fault, HasGraph, NodeId, Place, stored_at}
+use Rattle.search_graph.specs.Below.{StoredResult, Verdicts}
 
 module _ {C I R A T : Type 0} (says : Verdicts R) where
-  -- the node shows a result that is stored: it is the result's own, or was that of an equal one which stood in its place
+  -- the node shows a result that is stored: it is the result's own, or was that of an equal one
+  -- which stood in its place
   pub record ShowsStored (same : I → I → Bool) (cache : Cache C I R A T) (node : NodeId) : Type 0 where
     pub goal : I
     pub place : Place

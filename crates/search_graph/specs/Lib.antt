@@ -7,6 +7,7 @@ pub mod Laws
 pub mod Ran
 pub mod Called
 pub mod Reaching
+pub mod Deciding
 pub mod Faults
 pub mod Left
 pub mod LimitsMet

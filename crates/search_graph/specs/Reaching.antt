@@ -13,7 +13,8 @@ module _ {I R : Type 0} (scripts : I → List (Reply R) → Request I R) where
   -- a walk of questions leads from the first goal to the second, perhaps one of no step
   pub data MayReach : I → I → Type 0 where
     here : {goal : I} → MayReach goal goal
-    on : {goal : I} {kind : PathKind} {asked : I} {other : I} → MayAsk goal kind asked → MayReach asked other → MayReach goal other
+    on : {goal : I} {kind : PathKind} {asked : I} {other : I} → MayAsk goal kind asked
+        → MayReach asked other → MayReach goal other
 
   -- the newest goal asks this question; an outer call asks for anything
   abbrev pub AsksNewest : {X F A T : Type 0} → List (OpenGoal X F I R A T) → PathKind → I → Type 0

@@ -4,6 +4,7 @@ ghost use Rattle.global_cache.specs.Sound.{IsSoundCache};
 ghost use Rattle.search_graph.specs.Below.{verdicts};
 ghost use Rattle.search_graph.specs.Laws.{AreLaws};
 
+pub mod deciding;
 pub mod decisive;
 pub mod enclosed;
 pub mod faults;

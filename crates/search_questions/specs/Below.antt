@@ -42,5 +42,6 @@ pub use Rattle.search_rules.specs.Provisional.{AreReady}
 pub use Rattle.search_rules.specs.Provisional.{IsReady}
 pub use Rattle.search_rules.specs.Runs.{StayFrom}
 pub use Rattle.search_rules.specs.Runs.{run_of, runs_of}
-pub use Rattle.between_moves.specs.Evaluations.{GoesOnWith, HasRequest, IsRight, IsRightFor, KeepsCache, Requests, StartsFrame, StopsWith}
+pub use Rattle.between_moves.specs.Evaluations.{GoesOnWith, HasRequest, IsRight, IsRightFor, KeepsCache, Requests}
+pub use Rattle.between_moves.specs.Evaluations.{StartsFrame, StopsWith}
 pub use Rattle.search_state.specs.Drafts.{AreNotedNodes, LeavesReached, noted}

@@ -8,15 +8,17 @@ use Rattle.search_state.specs.declared.evaluation.Evaluation.{Evaluation}
 use Rattle.search_rules.specs.Live.{AreLiveEntries, AreLiveResults, AreLiveRuns, IsLiveNode}
 
 module _ {D C V P F I R A T : Type 0} (same : I → I → Bool) where
-  -- these are among the roots: the noted nodes and this one, and those to which the goals under evaluation and the provisional entries lead
+  -- these are among the roots: the noted nodes and this one, and those to which the goals under evaluation and the
+  -- provisional entries lead
   pub record HasRoots (e : Evaluation D C V P F I R A T) (target : Option NodeId) (roots : List NodeId) : Type 0 where
     pub noted_are : (node : NodeId) → Contains (noted target e.drafts.stored.items) node → Contains roots node
     pub goals : All (HasNodes roots) e.goals
     pub entries : (goal : I) → All (λ entry. IfSome entry.node (Contains roots)) (entries_at same e.provisional goal)
 
-  -- Nodes are let go, but none that was there before the call, and none to which the goals under evaluation, the reply for the newest one,
-  -- the provisional entries or the stored results lead.
-  pub record LetsGo (e : Evaluation D C V P F I R A T) (target : Option NodeId) (old new : Cache C I R A T) : Type 0 where
+  -- Nodes are let go, but none that was there before the call, and none to which the goals under evaluation, the reply
+  -- for the newest one, the provisional entries or the stored results lead.
+  pub record LetsGo (e : Evaluation D C V P F I R A T) (target : Option NodeId)
+      (old new : Cache C I R A T) : Type 0 where
     pub live : ℕ → Bool
     pub collected : Collected live old.nodes new.nodes
     pub goals : AreLiveRuns live (runs_of e.goals)
@@ -27,8 +29,10 @@ module _ {D C V P F I R A T : Type 0} (same : I → I → Bool) where
     pub earlier : (at : ℕ) → at < e.drafts.first → slice_get new.nodes at ≡ slice_get old.nodes at
     pub rest : new ≡ record old { nodes = new.nodes }
 
-  -- nodes are let go at the end of a call, but none that was there before, and none to which the answer, stored results or noted nodes lead
-  pub record LetsGoAtEnd (e : Evaluation D C V P F I R A T) (target : Option NodeId) (old new : Cache C I R A T) : Type 0 where
+  -- nodes are let go at the end of a call, but none that was there before, and none to which the answer, stored
+  -- results or noted nodes lead
+  pub record LetsGoAtEnd (e : Evaluation D C V P F I R A T) (target : Option NodeId)
+      (old new : Cache C I R A T) : Type 0 where
     pub live : ℕ → Bool
     pub collected : Collected live old.nodes new.nodes
     pub results : AreLiveResults live same old.results

@@ -234,7 +234,8 @@ fn entry_for<'a, D: Delegate>(
     step: PathKind,
     input: <D::Cx as Cx>::Input,
 ) -> Option<&'a ProvisionalCacheEntry<D::Cx>>
-    requires on_stack { AreOnStack D.Cx.Input.eq (reverse (map (λ s. s.0) goals.now)) provisional.now }
+    requires on_stack { AreOnStack D.Cx.Input.eq
+        (reverse (map (λ s. s.0) goals.now)) provisional.now }
     ensures found { option_copied result ≡ usable_entry D.Cx.Input.eq D.ENABLE_PROVISIONAL_CACHE
         (record { stack = reverse (map (λ s. s.0) goals.now); entries = provisional.now; step = step })
         input }
@@ -252,7 +253,8 @@ fn consult_for<'a, D: Delegate>(
     depth: AvailableDepth,
     inspect: &mut D::ProofTreeBuilder,
 ) -> Consulted<'a, D>
-    requires on_stack { AreOnStack D.Cx.Input.eq (reverse (map (λ s. s.0) goals.now)) provisional.now }
+    requires on_stack { AreOnStack D.Cx.Input.eq
+        (reverse (map (λ s. s.0) goals.now)) provisional.now }
     ensures consults { Consults (D.noop inspect.old) (D.scoped cache.now.cx input) (first_accepted
         (is_applicable D.Cx.Input.eq
         (record { stack = reverse (map (λ s. s.0) goals.now); entries = provisional.now; step = step }))

@@ -57,7 +57,8 @@ pub use Rattle.search_stack.specs.declared.stack.EntryState.{EntryState}
 pub use Rattle.search_stack.specs.declared.stack.StackEntry.{StackEntry}
 pub use Rattle.provisional_cache.specs.Provisional.{entries_at, Lists}
 pub use Rattle.provisional_cache.specs.Rebasing.{but_highest, CanBeRebased, changed_for, from_head, from_new_head}
-pub use Rattle.provisional_cache.specs.Rebasing.{keeps_kind, keeps_kinds, rebased, rebased_at, rebased_unused, rebased_used}
+pub use Rattle.provisional_cache.specs.Rebasing.{keeps_kind, keeps_kinds, rebased, rebased_at}
+pub use Rattle.provisional_cache.specs.Rebasing.{rebased_unused, rebased_used}
 pub use Rattle.provisional_cache.specs.Rebasing.{with_unused, with_used}
 pub use Rattle.provisional_cache.specs.Reuse.{asking_heads, depends_on, has_head_up_to, highest_passes, is_used_at}
 pub use Rattle.provisional_cache.specs.Reuse.{may_be_used}
@@ -67,7 +68,8 @@ pub use Rattle.provisional_cache.specs.declared.RebaseReason.TheVariants.{Ambigu
 pub use Rattle.provisional_cache.specs.declared.RebaseReason.TheVariants.{Overflow, ReachedFixpoint}
 pub use Rattle.graph_nodes.specs.Nodes.{AreRuns, CacheNode, EndedRun, graph_nodes_of, IsNodeOf, IsRun}
 pub use Rattle.global_cache.specs.Cache.{Cache}
-pub use Rattle.graph_nodes.specs.Nodes.{KeepsFinished, KeepsGoals, KeepsNodes, goal_if_open, open_goal, open_node, with_run}
+pub use Rattle.graph_nodes.specs.Nodes.{KeepsFinished, KeepsGoals, KeepsNodes, goal_if_open, open_goal}
+pub use Rattle.graph_nodes.specs.Nodes.{open_node, with_run}
 pub use Rattle.graph_nodes.specs.Definite.{HasGraph, HasNode}
 pub use Rattle.global_cache.specs.Hits.{first_accepted, usable}
 pub use Rattle.search_stack.specs.Hit.{Hit, hit_of}

@@ -2,9 +2,10 @@
 use Rattle.std.specs.Prelude.{◌≡◌, ◌⊎◌, ℕ, ◌+◌, ◌<◌, ◌≤◌, ◌^◌, max, Bool, true, false, Contains, List}
 use Rattle.search_rules.specs.Below.{DelegateOf, CxOf, MeetsNone, IsEnclosed, IsPlainTo, Place, frames_within, Limits}
 
--- An outer call: its goal and depth, the frames started before it, and whether a limit was met before it; whether it is known that
--- no result that met overflow was stored before it, and goals of which that is known; whether each stored result was yes or no; and
--- which depths are known to have been required by the result that was stored for a goal at a place.
+-- An outer call: its goal and depth, the frames started before it, and whether a limit was met before it; whether
+-- it is known that no result that met overflow was stored before it, and goals of which that is known; whether
+-- each stored result was yes or no; and which depths are known to have been required by the result that was stored
+-- for a goal at a place.
 pub record Call (I : Type 0) : Type 0 where
   pub top : I
   pub root : ℕ
@@ -33,19 +34,29 @@ module _ {D C V P F I R A T : Type 0} (G : DelegateOf D C V P F I R A T) (X : Cx
   runs = max 1 G.FIXPOINT_STEP_LIMIT
 
   abbrev pub limits : Call I → Limits I
-  limits call = record { runs = runs; width = G.width cx; root = call.root; last = G.last; before = call.starts; goals = call.goals }
+  limits call = record {
+    runs = runs;
+    width = G.width cx;
+    root = call.root;
+    last = G.last;
+    before = call.starts;
+    goals = call.goals;
+  }
 
   -- the most frames that have started when the call ends
   abbrev pub bound : Call I → ℕ
   bound call = call.starts + frames_within runs (G.width cx) call.root
 
-  -- no question leads out of the goals of which it is known that no overflow result was stored, and there is depth enough for them
+  -- no question leads out of the goals of which it is known that no overflow result was stored, and there is
+  -- depth enough for them
   abbrev pub CallIsEnclosed : Call I → Type 0
   CallIsEnclosed call = IsEnclosed (G.script cx) call.goals call.root call.top
 
-  -- each start is counted, and before the call no limit was met and no result that met overflow was stored that it may use
+  -- each start is counted, and before the call no limit was met and no result that met overflow was
+  -- stored that it may use
   abbrev pub IsCounted : Call I → Type 0
-  IsCounted call = (G.counts ≡ true) × (call.limits_met ≡ false) × ((call.without_overflow ≡ true) ⊎ CallIsEnclosed call)
+  IsCounted call =
+      (G.counts ≡ true) × (call.limits_met ≡ false) × ((call.without_overflow ≡ true) ⊎ CallIsEnclosed call)
 
   -- no overflow is met as long as this holds: starts are counted and no limit is met, or the call is enclosed
   abbrev pub CallMeetsNone : Call I → (met : Bool) → Type 0

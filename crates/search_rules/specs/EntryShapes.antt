@@ -3,7 +3,9 @@ use Rattle.std.specs.Prelude.{ℕ, Bool, is_some, List, None, Some}
 use Rattle.std.specs.Option.{option_map}
 use Rattle.open_graphs.specs.Graph as graphs
 use Rattle.open_graphs.specs.Rebased as theory
-use Rattle.search_rules.specs.Below.{Entry, ProvisionalEntry, ProvisionalUse, Heads, at_depth, highest, heads_shape, rank_of, ProvisionalCacheEntry, RebaseReason, NoCycleUsages, Ambiguity, Overflow, ReachedFixpoint, verdict_of, Verdicts}
+use Rattle.search_rules.specs.Below.{Entry, ProvisionalEntry, ProvisionalUse, Heads, at_depth, highest, heads_shape}
+use Rattle.search_rules.specs.Below.{rank_of, ProvisionalCacheEntry, RebaseReason, NoCycleUsages, Ambiguity, Overflow}
+use Rattle.search_rules.specs.Below.{ReachedFixpoint, verdict_of, Verdicts}
 
 -- the depths at which a head is recorded
 abbrev pub depths_of : Heads → ℕ → Bool

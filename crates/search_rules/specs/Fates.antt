@@ -2,7 +2,8 @@
 use Rattle.std.specs.Prelude.{◌≡◌, ℕ, ◌≤◌, Bool, true, false, List, [], ◌∷◌, map, Option, None, Some}
 use Rattle.std.specs.List.{list_any}
 use Rattle.std.specs.Option.{option_map}
-use Rattle.search_rules.specs.Below.{Hit, IsPlainTo, IsPlainValue, Place, Reply, Request, Store, OpenGoal, stored_at, StoredResult}
+use Rattle.search_rules.specs.Below.{Hit, IsPlainTo, IsPlainValue, Place, Reply, Request, Store, OpenGoal}
+use Rattle.search_rules.specs.Below.{stored_at, StoredResult}
 use Rattle.run_records.specs.declared.runs.Fate.{Fate}
 use Rattle.run_records.specs.declared.runs.Fate.TheVariants as becomes
 
@@ -12,8 +13,8 @@ answered_by false in_scope found = None
 answered_by true true found = None
 answered_by true false found = found
 
--- What becomes of the result of a goal that is asked: with a builder that records it isn't stored; in a scope it is compared with the
--- stored result, if one is found; else it is stored.
+-- What becomes of the result of a goal that is asked: with a builder that records it isn't stored; in a scope it is
+-- compared with the stored result, if one is found; else it is stored.
 abbrev pub fate_for : {I R T : Type 0} → (noop in_scope : Bool) → Option (Hit I R T) → Fate R
 fate_for false in_scope found = becomes.NotStored
 fate_for true false found = becomes.Stored
@@ -21,7 +22,8 @@ fate_for true true None = becomes.Stored
 fate_for true true (Some hit) = becomes.Compared hit.result
 
 -- what is found is consulted: it answers the goal, or the goal's result meets this fate
-pub record Consults {I R T : Type 0} (noop in_scope : Bool) (found answer : Option (Hit I R T)) (meets : Fate R) : Type 0 where
+pub record Consults {I R T : Type 0} (noop in_scope : Bool)
+    (found answer : Option (Hit I R T)) (meets : Fate R) : Type 0 where
   pub stored : answer ≡ answered_by noop in_scope found
   pub fate : meets ≡ fate_for noop in_scope found
 
@@ -61,12 +63,14 @@ MeetsNewest [] r = Unit {0}
 MeetsNewest (s ∷ below) r = (stored : _) → s.fate ≡ becomes.Compared stored → r ≡ stored
 
 -- the result is stored of the goal, which is in a scope
-pub record IsExpected {X I R A T : Type 0} (scopes : I → Bool) (same : I → I → Bool) (results : Store I (StoredResult X I R A T)) (goal : I) (r : R) : Type 0 where
+pub record IsExpected {X I R A T : Type 0} (scopes : I → Bool) (same : I → I → Bool)
+    (results : Store I (StoredResult X I R A T)) (goal : I) (r : R) : Type 0 where
   pub in_scope : scopes goal ≡ true
   pub place : Place
   pub is_stored : option_map (λ s. s.result.result) (stored_at same results goal place) ≡ Some r
 
-module _ {X I R A T : Type 0} (scopes : I → Bool) (scripts : I → List (Reply R) → Request I R) (same : I → I → Bool) (results : Store I (StoredResult X I R A T)) where
+module _ {X I R A T : Type 0} (scopes : I → Bool) (scripts : I → List (Reply R) → Request I R) (same : I → I → Bool)
+    (results : Store I (StoredResult X I R A T)) where
   -- What the goal's result is to be compared with is stored of it; and is its plain value, if its rank fits its depth.
   pub record HasExpected (s : Fated I R) : Type 0 where
     pub expected : IfCompared s.fate (IsExpected scopes same results s.goal)
@@ -89,10 +93,12 @@ module _ {I R : Type 0} (same : I → I → Bool) where
   HasOldest goal fate (s ∷ []) = (s.goal ≡ goal) × (s.fate ≡ fate)
   HasOldest goal fate (s ∷ p ∷ below) = (same s.goal goal ≡ false) × HasOldest goal fate (p ∷ below)
 
-  -- A move leaves the goals with their fates, or pushes a goal that is none of them, with a fate that suits it, or pops the newest one.
+  -- A move leaves the goals with their fates, or pushes a goal that is none of them, with a fate that suits it,
+  -- or pops the newest one.
   pub data MovesFates (suits : Fated I R → Type 0) (old new : List (Fated I R)) : Type 0 where
     Stay : new ≡ old → MovesFates suits old new
-    Push : (s p : Fated I R) (below : List (Fated I R)) → old ≡ p ∷ below → list_any (λ t. same s.goal t.goal) old ≡ false → suits s → new ≡ s ∷ old → MovesFates suits old new
+    Push : (s p : Fated I R) (below : List (Fated I R)) → old ≡ p ∷ below
+        → list_any (λ t. same s.goal t.goal) old ≡ false → suits s → new ≡ s ∷ old → MovesFates suits old new
     Pop : (s : Fated I R) → old ≡ s ∷ new → MovesFates suits old new
 
   -- the stored results are the same, or the newest goal's are others, which are to be stored
@@ -100,5 +106,6 @@ module _ {I R : Type 0} (same : I → I → Bool) where
     Untouched : new ≡ old → ChangesNewest goals old new
     OfNewest :
         (s : Fated I R) (below : List (Fated I R))
-        → goals ≡ s ∷ below → s.fate ≡ becomes.Stored → ((other : I) (place : Place) → same s.goal other ≡ false → stored_at same new other place ≡ stored_at same old other place)
+        → goals ≡ s ∷ below → s.fate ≡ becomes.Stored → ((other : I) (place : Place) → same s.goal other ≡ false
+        → stored_at same new other place ≡ stored_at same old other place)
         → ChangesNewest goals old new

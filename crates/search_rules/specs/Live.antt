@@ -1,7 +1,9 @@
--- What goals under evaluation, provisional entries, stored results and replies lead to is live: it stays when other nodes are let go.
+-- What goals under evaluation, provisional entries, stored results and replies lead to is live: it stays when
+-- other nodes are let go.
 use Rattle.std.specs.Prelude.{◌≡◌, ℕ, All, Bool, IsTrue, List, [], ◌∷◌, Option, slice_get, Some}
 use Rattle.std.specs.Option.{IfSome}
-use Rattle.search_rules.specs.Below.{DefiniteAnswer, entries_at, Lists, NodeId, Place, ProvisionalCacheEntry, Store, stored_at, StoredResult}
+use Rattle.search_rules.specs.Below.{DefiniteAnswer, entries_at, Lists, NodeId, Place, ProvisionalCacheEntry, Store}
+use Rattle.search_rules.specs.Below.{stored_at, StoredResult}
 use Rattle.search_rules.specs.Justified.{OpenRun}
 
 module _ (live : ℕ → Bool) where
@@ -27,4 +29,5 @@ module _ (live : ℕ → Bool) where
   -- the same of all stored results
   abbrev pub AreLiveResults : {X I R A T : Type 0} → (I → I → Bool) → Store I (StoredResult X I R A T) → Type 0
   AreLiveResults {X} {I} {R} {A} {T} same results =
-      (goal : I) (place : Place) (s : StoredResult X I R A T) → stored_at same results goal place ≡ Some s → IsLiveNode s.node
+      (goal : I) (place : Place) (s : StoredResult X I R A T)
+      → stored_at same results goal place ≡ Some s → IsLiveNode s.node

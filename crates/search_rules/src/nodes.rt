@@ -79,8 +79,7 @@ fn finish_by<D: Delegate>(
     requires no { (verdict ≡ Verdict.No) ↔ IsTrue (D.Cx.is_no outcome) }
     ensures ended { OnOk result (cache.new.nodes ≡ with_run cache.old.nodes node.0
         (ended_run told.now.replies (edges_of told.now verdict) outcome)) }
-    ensures same_context { cache.new.cx ≡ cache.old.cx }
-    ensures same_results { cache.new.results ≡ cache.old.results }
+    ensures rest { cache.new ≡ record cache.old { nodes = cache.new.nodes } }
     ensures kept { KeepsFinished cache.old.nodes cache.new.nodes }
     ensures others { KeepsBut node.0 cache.old.nodes cache.new.nodes }
 {

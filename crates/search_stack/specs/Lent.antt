@@ -13,7 +13,8 @@ change_last f [] = []
 change_last f (e ∷ []) = f e ∷ []
 change_last f (e ∷ d ∷ es) = e ∷ change_last f (d ∷ es)
 
-module _ (X I R A T : RattleType) (C : Cx.Ghosts X.Denot I.Denot R.Denot A.Denot T.Denot) (eq : PartialEq.Ghosts I.Denot) (hash : Hash.Ghosts I.Denot) (same : PartialEq.Ghosts R.Denot) where
+module _ (X I R A T : RattleType) (C : Cx.Ghosts X.Denot I.Denot R.Denot A.Denot T.Denot)
+    (eq : PartialEq.Ghosts I.Denot) (hash : Hash.Ghosts I.Denot) (same : PartialEq.Ghosts R.Denot) where
   -- the row of the stack
   abbrev Stack : RattleType
   Stack = the_row X I R A T C eq hash same

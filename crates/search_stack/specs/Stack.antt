@@ -1,5 +1,6 @@
 -- What is read of a stack, whose first entry stands first.
-use Rattle.std.specs.Prelude.{◌≡◌, ℕ, ◌-◌, ◌/◌, nat_eq, if◌then◌else◌, Bool, false, List, [], ◌∷◌, length, map, slice_index_or, Option, Some, None}
+use Rattle.std.specs.Prelude.{◌≡◌, ℕ, ◌-◌, ◌/◌, nat_eq, if◌then◌else◌, Bool, false, List, [], ◌∷◌, length, map}
+use Rattle.std.specs.Prelude.{slice_index_or, Option, Some, None}
 use Rattle.std.specs.List.{position}
 use Rattle.search_stack.specs.Below.{PathKind}
 use Rattle.search_stack.specs.declared.depth.AvailableDepth.{AvailableDepth}

@@ -23,6 +23,7 @@ module _ {C I R A T : Type 0} (same : I → I → Bool) where
   AreNotedNodes cache drafts = AreRooted same drafts.first drafts.stored.items cache.results
 
   -- this stays so, of the same call
-  pub record KeepsNoted (old : Cache C I R A T) (before : Drafts) (new : Cache C I R A T) (after : Drafts) : Type 0 where
+  pub record KeepsNoted (old : Cache C I R A T) (before : Drafts)
+      (new : Cache C I R A T) (after : Drafts) : Type 0 where
     pub first : after.first ≡ before.first
     pub noted_are : AreNotedNodes old before → AreNotedNodes new after

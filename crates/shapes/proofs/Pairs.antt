@@ -1,5 +1,6 @@
 -- The questions of a pair, by the parts of both shapes.
-use Rattle.std.proofs.Common.{◌≡◌, ℕ, zero, suc, ◌<◌, ◌≤◌, ◌==◌, ◌&&◌, Bool, true, false, cond, List, [], ◌∷◌, length, slice_get, get_or, Contains, Option, None, Some, refl, sym, ap, ap₂, ◌∙◌, subst, arith}
+use Rattle.std.proofs.Common.{◌≡◌, ℕ, zero, suc, ◌<◌, ◌≤◌, ◌==◌, ◌&&◌, Bool, true, false, cond, List, [], ◌∷◌, length}
+use Rattle.std.proofs.Common.{slice_get, get_or, Contains, Option, None, Some, refl, sym, ap, ap₂, ◌∙◌, subst, arith}
 use Rattle.std.specs.Option.{unwrap_or}
 use Rattle.std.proofs.lemmas.Bool.{eqb-true, eq-eqb}
 use Rattle.std.proofs.lemmas.List.Sums.{get_or-le-sum_by}
@@ -17,10 +18,12 @@ asks_each-length (l ∷ ls) [] e = absurd (omega arith)
 asks_each-length (l ∷ ls) (r ∷ rs) e = ap suc (asks_each-length ls rs (omega arith))
 
 -- the question at a place is that of the parts there
-pub asks_each-at : (ls rs : List ℕ) (at l r : ℕ) → slice_get ls at ≡ Some l → slice_get rs at ≡ Some r → slice_get (asks_each ls rs) at ≡ Some (asks l r)
+pub asks_each-at : (ls rs : List ℕ) (at l r : ℕ) → slice_get ls at ≡ Some l → slice_get rs at ≡ Some r
+    → slice_get (asks_each ls rs) at ≡ Some (asks l r)
 asks_each-at [] rs at l r e f = absurd cc
 asks_each-at (x ∷ ls) [] at l r e f = absurd cc
-asks_each-at (x ∷ ls) (y ∷ rs) zero l r e f = let a : x ≡ l = cc in let b : y ≡ r = cc in ap₂ (λ p q. Some (asks p q)) a b
+asks_each-at (x ∷ ls) (y ∷ rs) zero l r e f =
+    let a : x ≡ l = cc in let b : y ≡ r = cc in ap₂ (λ p q. Some (asks p q)) a b
 asks_each-at (x ∷ ls) (y ∷ rs) (suc at) l r e f = asks_each-at ls rs at l r e f
 
 -- two parts at one place, of which a question is
@@ -35,8 +38,16 @@ pub record PartsOf (ls rs : List ℕ) (q : Question Pair) : Type 0 where
 asked_from : (ls rs : List ℕ) (at : ℕ) (q : Question Pair) → slice_get (asks_each ls rs) at ≡ Some q → PartsOf ls rs q
 asked_from [] rs at q e = absurd cc
 asked_from (x ∷ ls) [] at q e = absurd cc
-asked_from (x ∷ ls) (y ∷ rs) zero q e = record { at = 0; left = x; right = y; has_left = refl; has_right = refl; same = cc }
-asked_from (x ∷ ls) (y ∷ rs) (suc at) q e = let w = asked_from ls rs at q e in record { at = suc w.at; left = w.left; right = w.right; has_left = w.has_left; has_right = w.has_right; same = w.same }
+asked_from (x ∷ ls) (y ∷ rs) zero q e =
+    record { at = 0; left = x; right = y; has_left = refl; has_right = refl; same = cc }
+asked_from (x ∷ ls) (y ∷ rs) (suc at) q e = let w = asked_from ls rs at q e in record {
+  at = suc w.at;
+  left = w.left;
+  right = w.right;
+  has_left = w.has_left;
+  has_right = w.has_right;
+  same = w.same;
+}
 
 pub parts_of : (ls rs : List ℕ) (q : Question Pair) → Contains (asks_each ls rs) q → PartsOf ls rs q
 parts_of ls rs q h = asked_from ls rs h.0 q (at-Contains (asks_each ls rs) q h)
@@ -61,11 +72,14 @@ if_true : (b : Bool) (x y : List ℕ × List ℕ) → cond b (Some x) None ≡ S
 if_true true x y e = (refl, cc)
 if_true false x y e = absurd cc
 
-agree_in : (equations : List Equation) (l r : ℕ) (ls rs : List ℕ) (o p : Option Equation) → slice_get equations l ≡ o → slice_get equations r ≡ p → parts_in o p ≡ Some (ls, rs) → Agree equations l r ls rs
+agree_in : (equations : List Equation) (l r : ℕ) (ls rs : List ℕ) (o p : Option Equation) → slice_get equations l ≡ o
+    → slice_get equations r ≡ p → parts_in o p ≡ Some (ls, rs) → Agree equations l r ls rs
 agree_in equations l r ls rs (Some left) (Some right) e f is =
-    let w = if_true ((left.label == right.label) && (length left.parts.items == length right.parts.items)) (left.parts.items, right.parts.items) (ls, rs) is in
+    let w = if_true ((left.label == right.label) && (length left.parts.items == length right.parts.items))
+    (left.parts.items, right.parts.items) (ls, rs) is in
     let b = both_true (left.label == right.label) (length left.parts.items == length right.parts.items) w.0 in
-    let n : length left.parts.items ≡ length right.parts.items = eqb-true (length left.parts.items) (length right.parts.items) b.1 in
+    let n : length left.parts.items ≡ length right.parts.items =
+    eqb-true (length left.parts.items) (length right.parts.items) b.1 in
     let x : left.parts.items ≡ ls = ap (λ t. t.0) w.1 in
     let y : right.parts.items ≡ rs = ap (λ t. t.1) w.1 in
     record {
@@ -81,43 +95,54 @@ agree_in equations l r ls rs (Some left) (Some right) e f is =
 agree_in equations l r ls rs (Some left) None e f is = absurd cc
 agree_in equations l r ls rs None p e f is = absurd cc
 
-pub agree : (equations : List Equation) (l r : ℕ) (ls rs : List ℕ) → matched_parts equations l r ≡ Some (ls, rs) → Agree equations l r ls rs
+pub agree : (equations : List Equation) (l r : ℕ) (ls rs : List ℕ)
+    → matched_parts equations l r ≡ Some (ls, rs) → Agree equations l r ls rs
 agree equations l r ls rs is = agree_in equations l r ls rs (slice_get equations l) (slice_get equations r) refl refl is
 
 -- the other way round
-pub matched_by : (equations : List Equation) (l r : ℕ) (left right : Equation) → slice_get equations l ≡ Some left → slice_get equations r ≡ Some right →
-    left.label ≡ right.label → length left.parts.items ≡ length right.parts.items → matched_parts equations l r ≡ Some (left.parts.items, right.parts.items)
+pub matched_by : (equations : List Equation) (l r : ℕ) (left right : Equation) → slice_get equations l ≡ Some left →
+    slice_get equations r ≡ Some right →
+    left.label ≡ right.label → length left.parts.items ≡ length right.parts.items →
+    matched_parts equations l r ≡ Some (left.parts.items, right.parts.items)
 matched_by equations l r left right e f label number =
     let a : (left.label == right.label) ≡ true = eq-eqb left.label right.label label in
-    let b : (length left.parts.items == length right.parts.items) ≡ true = eq-eqb (length left.parts.items) (length right.parts.items) number in
+    let b : (length left.parts.items == length right.parts.items) ≡ true =
+    eq-eqb (length left.parts.items) (length right.parts.items) number in
     subst (λ o. parts_in o (slice_get equations r) ≡ Some (left.parts.items, right.parts.items)) (sym e)
     (subst (λ p. parts_in (Some left) p ≡ Some (left.parts.items, right.parts.items)) (sym f)
     (ap (λ t. cond t (Some (left.parts.items, right.parts.items)) None) (ap₂ (λ p q. p && q) a b)))
 
 -- no pair has more questions than all shapes have parts
-pub questions_within : (equations : List Equation) (l r : ℕ) (o : Option (List ℕ × List ℕ)) → matched_parts equations l r ≡ o → length (questions_in o) ≤ most_parts equations
+pub questions_within : (equations : List Equation) (l r : ℕ) (o : Option (List ℕ × List ℕ))
+    → matched_parts equations l r ≡ o → length (questions_in o) ≤ most_parts equations
 questions_within equations l r None e = omega arith
 questions_within equations l r (Some parts) e =
     let a = agree equations l r parts.0 parts.1 e in
     let k : length (asks_each parts.0 parts.1) ≡ length parts.0 = asks_each-length parts.0 parts.1 a.number in
     let n : length a.left.parts.items ≡ length parts.0 = ap length a.left_parts in
-    let h = get_or-le-sum_by (λ x. length x.parts.items) equations l a.left (slice_get_within equations l a.left a.has_left) in
+    let h =
+    get_or-le-sum_by (λ x. length x.parts.items) equations l a.left (slice_get_within equations l a.left a.has_left) in
     let at : get_or equations l a.left ≡ a.left = get_or_from_slice_get equations l a.left a.left a.has_left in
-    let m : length (get_or equations l a.left).parts.items ≡ length a.left.parts.items = ap (λ x. length x.parts.items) at in
+    let m : length (get_or equations l a.left).parts.items ≡ length a.left.parts.items =
+    ap (λ x. length x.parts.items) at in
     omega (arith, h, k, n, m)
 
 asked_in : (ls rs : List ℕ) (at : ℕ) (pair : Pair) → at < length (asks_each ls rs) →
-    slice_get (asks_each ls rs) at ≡ Some (record { kind = Coinductive; goal = unwrap_or (pair_of (slice_get ls at) (slice_get rs at)) pair })
+    slice_get (asks_each ls rs) at
+    ≡ Some (record { kind = Coinductive; goal = unwrap_or (pair_of (slice_get ls at) (slice_get rs at)) pair })
 asked_in [] rs at pair l = absurd (omega arith)
 asked_in (x ∷ ls) [] at pair l = absurd (omega arith)
 asked_in (x ∷ ls) (y ∷ rs) zero pair l = refl
 asked_in (x ∷ ls) (y ∷ rs) (suc at) pair l = asked_in ls rs at pair (omega arith)
 
 -- the question at a place, as the code finds it
-pub asked_at : (o : Option (List ℕ × List ℕ)) (at : ℕ) (pair : Pair) → at < length (questions_in o) → slice_get (questions_in o) at ≡ Some (record { kind = Coinductive; goal = unwrap_or (parts_at o at) pair })
+pub asked_at : (o : Option (List ℕ × List ℕ)) (at : ℕ) (pair : Pair) → at < length (questions_in o)
+    → slice_get (questions_in o) at ≡ Some (record { kind = Coinductive; goal = unwrap_or (parts_at o at) pair })
 asked_at None at pair l = absurd (omega arith)
 asked_at (Some parts) at pair l = asked_in parts.0 parts.1 at pair l
 
 -- the number of questions, as the code finds it
-pub counted : (equations : List Equation) (l r : ℕ) (ls rs : List ℕ) → matched_parts equations l r ≡ Some (ls, rs) → length ls ≡ length (questions_in (matched_parts equations l r))
-counted equations l r ls rs e = sym (ap (λ o. length (questions_in o)) e ∙ asks_each-length ls rs (agree equations l r ls rs e).number)
+pub counted : (equations : List Equation) (l r : ℕ) (ls rs : List ℕ) → matched_parts equations l r ≡ Some (ls, rs)
+    → length ls ≡ length (questions_in (matched_parts equations l r))
+counted equations l r ls rs e =
+    sym (ap (λ o. length (questions_in o)) e ∙ asks_each-length ls rs (agree equations l r ls rs e).number)

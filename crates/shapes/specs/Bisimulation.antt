@@ -11,7 +11,8 @@ equations_of shapes = shapes.equations.items
 pub record AreMatched (pairs : List (ℕ × ℕ)) (left right : Equation) : Type 0 where
   pub label : left.label ≡ right.label
   pub number : length left.parts.items ≡ length right.parts.items
-  pub parts : (at l r : ℕ) → slice_get left.parts.items at ≡ Some l → slice_get right.parts.items at ≡ Some r → Contains pairs (l, r)
+  pub parts : (at l r : ℕ) → slice_get left.parts.items at ≡ Some l
+      → slice_get right.parts.items at ≡ Some r → Contains pairs (l, r)
 
 -- both numbers are declared, and their shapes are matched
 pub record IsMatchedPair (equations : List Equation) (pairs : List (ℕ × ℕ)) (l r : ℕ) : Type 0 where

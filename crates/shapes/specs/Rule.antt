@@ -1,5 +1,6 @@
 -- The rule of a pair of shapes, as a list of questions.
-use Rattle.std.specs.Prelude.{ℕ, ◌==◌, ◌&&◌, if◌then◌else◌, List, [], ◌∷◌, length, sum_by, slice_get, Option, Some, None}
+use Rattle.std.specs.Prelude.{ℕ, ◌==◌, ◌&&◌, if◌then◌else◌, List, [], ◌∷◌, length, sum_by, slice_get, Option}
+use Rattle.std.specs.Prelude.{Some, None}
 use Rattle.shapes.specs.Below.{Coinductive, Question, Needs, All, Any}
 use Rattle.shapes.specs.declared.equations.Equation.{Equation}
 use Rattle.shapes.specs.declared.delegate.Pair.{Pair}
@@ -7,7 +8,8 @@ use Rattle.shapes.specs.declared.delegate.Pair.{Pair}
 -- the parts of both, if they have one label and as many parts
 abbrev pub parts_in : Option Equation → Option Equation → Option (List ℕ × List ℕ)
 parts_in (Some left) (Some right) =
-    if (left.label == right.label) && (length left.parts.items == length right.parts.items) then Some (left.parts.items, right.parts.items) else None
+    if (left.label == right.label) && (length left.parts.items == length right.parts.items)
+    then Some (left.parts.items, right.parts.items) else None
 parts_in _ _ = None
 
 -- the same of the shapes with these numbers

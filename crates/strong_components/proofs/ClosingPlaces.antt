@@ -1,9 +1,11 @@
 -- The open places are closed from the last one back.
-use Rattle.std.proofs.Common.{◌≡◌, ◌≢◌, ℕ, ◌<◌, ◌≤◌, ◌+◌, List, [], ◌∷◌, ◌++◌, length, take, set, cond, slice_index, arith, ap, sym, ◌∙◌, inl, inr, subst, refl, get_or-set_same, get_or-set_other, length-set}
+use Rattle.std.proofs.Common.{◌≡◌, ◌≢◌, ℕ, ◌<◌, ◌≤◌, ◌+◌, List, [], ◌∷◌, ◌++◌, length, take, set, cond, slice_index}
+use Rattle.std.proofs.Common.{arith, ap, sym, ◌∙◌, inl, inr, subst, refl, get_or-set_same, get_or-set_other, length-set}
 use Rattle.std.specs.List.{count_by}
 use Rattle.std.proofs.lemmas.Bool.{cases_eq, cases_lt}
 use Rattle.std.proofs.lemmas.List.{get_or-take, get_or_push, length_push, take_all, take_at, take-take}
-use Rattle.strong_components.specs.Words.{State, New, Open, Closed, Search, AreOpened, ClosesFrom, closed_from, is_new, state_at}
+use Rattle.strong_components.specs.Words.{State, New, Open, Closed, Search, AreOpened, ClosesFrom, closed_from}
+use Rattle.strong_components.specs.Words.{is_new, state_at}
 use Rattle.strong_components.proofs.Closing.{closed_from-below, closed_from-above}
 use Rattle.strong_components.proofs.Counts.{news-set}
 use Rattle.strong_components.proofs.States.{state_inside}
@@ -15,7 +17,8 @@ closed_from-none count number _ low = refl
 -- at first nothing is closed
 pub closes_none : (s : Search) → AreOpened s.states.items s.opened.items → ClosesFrom s s (length s.opened.items)
 closes_none s opened = record {
-  states = λ a. closed_from-none (length s.opened.items) s.closed (state_at s.states.items a) (λ i is. (opened.found a i is).0);
+  states = λ a. closed_from-none (length s.opened.items) s.closed
+      (state_at s.states.items a) (λ i is. (opened.found a i is).0);
   fit = refl;
   news = refl;
   left = refl;
@@ -25,7 +28,8 @@ closes_none s opened = record {
 }
 
 -- one position less
-closed_from-less : (position number : ℕ) (x : State) → (x ≡ Open position → ⊥) → closed_from (position + 1) number x ≡ closed_from position number x
+closed_from-less : (position number : ℕ) (x : State) → (x ≡ Open position → ⊥)
+    → closed_from (position + 1) number x ≡ closed_from position number x
 closed_from-less position number (Open i) other = elim (cases_lt i position) [
   | inl lt ↦ closed_from-below (position + 1) number i (omega arith) ∙ sym (closed_from-below position number i lt)
   | inr le ↦
@@ -52,10 +56,12 @@ module _ (first before : Search) (rest : List ℕ) (place : ℕ)
   is_open : state_at first.states.items place ≡ Open (length rest)
   is_open =
       let n = count in
-      subst (λ a. state_at first.states.items a ≡ Open (length rest)) stands (are_opened.placed (length rest) (omega arith))
+      subst (λ a. state_at first.states.items a ≡ Open (length rest)) stands
+      (are_opened.placed (length rest) (omega arith))
 
   pub place_inside : place < length before.states.items
-  place_inside = let f = closes.fit in let i = state_inside first.states.items place (length rest) is_open in omega arith
+  place_inside =
+      let f = closes.fit in let i = state_inside first.states.items place (length rest) is_open in omega arith
 
   still_open : state_at before.states.items place ≡ Open (length rest)
   still_open =
@@ -68,9 +74,11 @@ module _ (first before : Search) (rest : List ℕ) (place : ℕ)
 
   closed_after : (a : ℕ) → state_at after a ≡ closed_from (length rest) first.closed (state_at first.states.items a)
   closed_after a = elim (cases_eq a place) [
-    | inl e ↦ subst (λ b. state_at after b ≡ closed_from (length rest) first.closed (state_at first.states.items b)) (sym e)
+    | inl e ↦
+        subst (λ b. state_at after b ≡ closed_from (length rest) first.closed (state_at first.states.items b)) (sym e)
         (get_or-set_same before.states.items place (Closed first.closed) New place_inside
-        ∙ sym (ap (closed_from (length rest) first.closed) is_open ∙ closed_from-above (length rest) first.closed (length rest) (omega arith)))
+        ∙ sym (ap (closed_from (length rest) first.closed) is_open
+        ∙ closed_from-above (length rest) first.closed (length rest) (omega arith)))
     | inr ne ↦
         get_or-set_other before.states.items place a (Closed first.closed) New ne
         ∙ closes.states a
@@ -79,13 +87,17 @@ module _ (first before : Search) (rest : List ℕ) (place : ℕ)
         (λ is. ne (sym (are_opened.found a (length rest) is).1 ∙ stands))
   ]
 
-  pub closes_one : (now : Search) → now.states.items ≡ after → now.opened.items ≡ rest → now.left.items ≡ before.left.items → now.starts.items ≡ before.starts.items → now.path.items ≡ before.path.items → ClosesFrom first now (length now.opened.items)
+  pub closes_one : (now : Search) → now.states.items ≡ after → now.opened.items ≡ rest
+      → now.left.items ≡ before.left.items → now.starts.items ≡ before.starts.items → now.path.items ≡ before.path.items
+      → ClosesFrom first now (length now.opened.items)
   closes_one now e_states e_opened e_left e_starts e_path = record {
-    states = λ a. ap (λ states. state_at states a) e_states ∙ closed_after a ∙ ap (λ xs. closed_from (length xs) first.closed (state_at first.states.items a)) (sym e_opened);
+    states = λ a. ap (λ states. state_at states a) e_states ∙ closed_after a
+        ∙ ap (λ xs. closed_from (length xs) first.closed (state_at first.states.items a)) (sym e_opened);
     fit = ap length e_states ∙ length-set before.states.items place (Closed first.closed) ∙ closes.fit;
     news =
         let news = news-set before.states.items place (Closed first.closed) place_inside in
-        let one : ◌≡◌ {A = ℕ} (cond (is_new (state_at before.states.items place)) 1 0) 0 = ap (λ x. cond (is_new x) 1 0) still_open in
+        let one : ◌≡◌ {A = ℕ} (cond (is_new (state_at before.states.items place)) 1 0) 0 =
+        ap (λ x. cond (is_new x) 1 0) still_open in
         let same : count_by is_new now.states.items ≡ count_by is_new after = ap (count_by is_new) e_states in
         let was = closes.news in omega arith;
     left = e_left ∙ closes.left;

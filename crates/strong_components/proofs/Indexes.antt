@@ -1,5 +1,6 @@
 -- Members of a list of numbers by their index, and a list whose last number was popped.
-use Rattle.std.proofs.Common.{◌≡◌, ℕ, ◌<◌, ◌≤◌, ◌+◌, ◌-◌, List, length, slice_index, take, arith, ap, sym, ◌∙◌, inl, inr, subst}
+use Rattle.std.proofs.Common.{◌≡◌, ℕ, ◌<◌, ◌≤◌, ◌+◌, ◌-◌, List, length, slice_index, take, arith, ap, sym, ◌∙◌, inl}
+use Rattle.std.proofs.Common.{inr, subst}
 use Rattle.std.specs.List.{Contains}
 use Rattle.std.proofs.lemmas.Bool.{cases_eq}
 use Rattle.std.proofs.lemmas.List.{get_or_default, get_or-take, length-take-le}
@@ -26,7 +27,8 @@ pub record IsFront (xs front : List ℕ) : Type 0 where
   pub kept : (k : ℕ) → k < length front → slice_index front k ≡ slice_index xs k
 
 -- a member other than the last number of the list is in its front
-pub front-contains : (xs front : List ℕ) (last x : ℕ) → IsFront xs front → HasLast xs last → Contains xs x → (x ≡ last → ⊥) → Contains front x
+pub front-contains : (xs front : List ℕ) (last x : ℕ) → IsFront xs front → HasLast xs last
+    → Contains xs x → (x ≡ last → ⊥) → Contains front x
 front-contains xs front last x pops ends member other =
     let (k, inside, is) = at_index xs x member in
     elim (cases_eq k (length front)) [
@@ -40,7 +42,8 @@ front-contains xs front last x pops ends member other =
     ]
 
 -- the numbers of the front of a rising list are below its last one
-pub front-below : (xs front : List ℕ) (last k : ℕ) → IsIncreasing xs → IsFront xs front → HasLast xs last → k < length front → slice_index front k < last
+pub front-below : (xs front : List ℕ) (last k : ℕ) → IsIncreasing xs → IsFront xs front → HasLast xs last
+    → k < length front → slice_index front k < last
 front-below xs front last k rises pops ends inside =
     let s = pops.shorter in let same = pops.kept k inside in
     let below = rises k (length xs - 1) (omega arith) (omega arith) in let end = ends.1 in omega arith

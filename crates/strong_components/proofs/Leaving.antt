@@ -6,17 +6,24 @@ use Rattle.strong_components.specs.Words.{State, Open, HasLast, IsOngoing, state
 use Rattle.strong_components.proofs.Indexes.{IsFront, front-contains, front-rises, rising_last}
 
 -- an open place is on the rest of the path, unless all its successors were looked at
-pub open_left : (graph : List (List ℕ)) (states : List State) (left opened starts path front : List ℕ) (closed position : ℕ) → IsOngoing graph states left opened starts path closed → HasLast path position → IsFront path front → slice_index left (slice_index opened position) ≡ 0 → (a i : ℕ) → state_at states a ≡ Open i → Contains front i ⊎ (slice_index left a ≡ 0)
+pub open_left : (graph : List (List ℕ)) (states : List State) (left opened starts path front : List ℕ)
+    (closed position : ℕ) → IsOngoing graph states left opened starts path closed → HasLast path position
+    → IsFront path front → slice_index left (slice_index opened position) ≡ 0 → (a i : ℕ) → state_at states a ≡ Open i
+    → Contains front i ⊎ (slice_index left a ≡ 0)
 open_left graph states left opened starts path front closed position h ends pops done a i is =
     elim (h.are_left.at_open a i is) [
       | inl on ↦ elim (cases_eq i position) [
-        | inl e ↦ let same = (h.are_opened.found a i is).1 in inr (ap (slice_index left) (sym same ∙ ap (slice_index opened) e) ∙ done)
+        | inl e ↦ let same = (h.are_opened.found a i is).1 in
+            inr (ap (slice_index left) (sym same ∙ ap (slice_index opened) e) ∙ done)
         | inr ne ↦ inl (front-contains path front position i pops ends on ne)
       ]
       | inr none ↦ inr none
     ]
 
-pub leave_keeps : (graph : List (List ℕ)) (states : List State) (left opened starts path front : List ℕ) (closed position : ℕ) → IsOngoing graph states left opened starts path closed → HasLast path position → IsFront path front → slice_index left (slice_index opened position) ≡ 0 → (HasLast starts position → ⊥) → IsOngoing graph states left opened starts front closed
+pub leave_keeps : (graph : List (List ℕ)) (states : List State) (left opened starts path front : List ℕ)
+    (closed position : ℕ) → IsOngoing graph states left opened starts path closed → HasLast path position
+    → IsFront path front → slice_index left (slice_index opened position) ≡ 0 → (HasLast starts position → ⊥)
+    → IsOngoing graph states left opened starts front closed
 leave_keeps graph states left opened starts path front closed position h ends pops done no_start = record {
   fit = h.fit;
   are_opened = h.are_opened;
@@ -32,7 +39,8 @@ leave_keeps graph states left opened starts path front closed position h ends po
           | inl last ↦ no_start (omega arith, subst (λ n. slice_index starts n ≡ position) last e)
           | inr ne ↦
               let below = h.is_path.starts_rise k (length starts - 1) (omega arith) (omega arith) in
-              let top = rising_last path position _ h.is_path.path_rises ends (h.is_path.starts_on_path (length starts - 1) (omega arith)) in
+              let top = rising_last path position _ h.is_path.path_rises ends
+              (h.is_path.starts_on_path (length starts - 1) (omega arith)) in
               absurd (omega arith)
         ]);
     first = h.is_path.first;

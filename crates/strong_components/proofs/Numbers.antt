@@ -1,8 +1,10 @@
 -- The numbers of the closed places, once all are closed.
-use Rattle.std.proofs.Common.{◌≡◌, ◌≢◌, ℕ, ◌<◌, ◌≤◌, List, [], Contains, length, map, slice_index, slice_index_or, arith, ap, inl, inr, sym, ◌∙◌, subst, refl}
+use Rattle.std.proofs.Common.{◌≡◌, ◌≢◌, ℕ, ◌<◌, ◌≤◌, List, [], Contains, length, map, slice_index, slice_index_or}
+use Rattle.std.proofs.Common.{arith, ap, inl, inr, sym, ◌∙◌, subst, refl}
 use Rattle.std.proofs.lemmas.Bool.{cases_lt}
 use Rattle.std.proofs.lemmas.List.{get_or-map, get_or_past, length-map}
-use Rattle.strong_components.specs.Words.{State, New, Open, Closed, AreComponents, StaysInside, IsOngoing, MayStep, number_of, state_at}
+use Rattle.strong_components.specs.Words.{State, New, Open, Closed, AreComponents, StaysInside, IsOngoing, MayStep}
+use Rattle.strong_components.specs.Words.{number_of, state_at}
 use Rattle.strong_components.proofs.Idle.{none_opened}
 use Rattle.strong_components.proofs.Indexes.{at_index}
 use Rattle.strong_components.proofs.Walks.{step_from_inside, step_to_inside}
@@ -26,7 +28,8 @@ module _ (graph : List (List ℕ)) (states : List State) (left opened starts pat
   is_closed : (a : ℕ) → a < length graph → state_at states a ≡ Closed (number_of (state_at states a))
   is_closed a lt =
       must_be_closed (state_at states a) (seen a lt)
-      (λ i is. let low = (h.are_opened.found a i is).0 in let none = none_opened graph states left opened starts path closed h idle in absurd (omega arith))
+      (λ i is. let low = (h.are_opened.found a i is).0 in
+      let none = none_opened graph states left opened starts path closed h idle in absurd (omega arith))
 
   number_at : (a : ℕ) → a < length graph → slice_index (map number_of states) a ≡ number_of (state_at states a)
   number_at a lt = get_or-map number_of states a New 0 (let f = h.fit in omega arith)
@@ -38,10 +41,12 @@ module _ (graph : List (List ℕ)) (states : List State) (left opened starts pat
     | inr past ↦ let none = get_or_past states a New past in absurd cc
   ]
 
-  lower_given : (number : ℕ) → Contains (map number_of states) number → (lower : ℕ) → lower < number → Contains (map number_of states) lower
+  lower_given : (number : ℕ) → Contains (map number_of states) number → (lower : ℕ) → lower < number
+      → Contains (map number_of states) lower
   lower_given number (i, inside_map, at) lower low =
       let long = length-map states number_of in
-      let same : number_of (state_at states i) ≡ number = sym (get_or-map number_of states i New number (omega arith)) ∙ at in
+      let same : number_of (state_at states i) ≡ number =
+      sym (get_or-map number_of states i New number (omega arith)) ∙ at in
       let below = h.numbered i number (is_closed i (let f = h.fit in omega arith) ∙ ap Closed same) in
       let (a, is) = h.used lower (omega arith) in
       let within = closed_inside a lower is in
@@ -61,6 +66,7 @@ module _ (graph : List (List ℕ)) (states : List State) (left opened starts pat
     together = λ a b in_a in_b same.
         let at_a = number_at a in_a in let at_b = number_at b in_b in
         let same_number : number_of (state_at states b) ≡ number_of (state_at states a) = omega arith in
-        h.closed_reach a b (number_of (state_at states a)) (is_closed a in_a) (is_closed b in_b ∙ ap Closed same_number);
+        h.closed_reach a b (number_of (state_at states a)) (is_closed a in_a)
+        (is_closed b in_b ∙ ap Closed same_number);
     from_zero = lower_given;
   }

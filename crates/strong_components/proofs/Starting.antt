@@ -1,5 +1,6 @@
 -- A search that has found nothing yet.
-use Rattle.std.proofs.Common.{◌≡◌, ℕ, zero, suc, ◌≤◌, List, [], ◌∷◌, length, map, slice_index, slice_index_or, replicate, refl, sym, ap, ◌∙◌, subst, arith}
+use Rattle.std.proofs.Common.{◌≡◌, ℕ, zero, suc, ◌≤◌, List, [], ◌∷◌, length, map, slice_index, slice_index_or}
+use Rattle.std.proofs.Common.{replicate, refl, sym, ap, ◌∙◌, subst, arith}
 use Rattle.std.proofs.lemmas.List.{length-map}
 use Rattle.std.proofs.lemmas.List.Sums.{count_by-le-length}
 use Rattle.std.specs.Global.{Vec}
@@ -17,7 +18,8 @@ as_many zero = refl
 as_many (suc n) = ap suc (as_many n)
 
 new_counted : (n : ℕ) → count_by is_new (replicate n New) ≤ n
-new_counted n = subst (λ most. count_by is_new (replicate n New) ≤ most) (as_many n) (count_by-le-length is_new (replicate n New))
+new_counted n =
+    subst (λ most. count_by is_new (replicate n New) ≤ most) (as_many n) (count_by-le-length is_new (replicate n New))
 
 lengths_at : (graph : List (List ℕ)) (a : ℕ) → slice_index (map length graph) a ≡ length (slice_index_or graph a [])
 lengths_at [] a = refl
@@ -33,8 +35,10 @@ told_lengths (l ∷ ls) =
     ap (λ n. n ∷ map vec_len ls) told ∙ ap (λ list. length l.items ∷ list) (told_lengths ls)
 
 -- and there are as many of them
-pub told_states : (graph : List (Vec ℕ)) (states : List State) → states ≡ replicate (length graph) New → states ≡ replicate (length (successor_lists graph)) New
-told_states graph states new = new ∙ ap (λ n. replicate n New) (sym (length-map graph (λ (successors : Vec ℕ). successors.items)))
+pub told_states : (graph : List (Vec ℕ)) (states : List State) → states ≡ replicate (length graph) New
+    → states ≡ replicate (length (successor_lists graph)) New
+told_states graph states new =
+    new ∙ ap (λ n. replicate n New) (sym (length-map graph (λ (successors : Vec ℕ). successors.items)))
 
 -- no place is found, and all successors are left
 nothing_found : (graph : List (List ℕ)) → IsOngoing graph (replicate (length graph) New) (map length graph) [] [] [] 0
@@ -66,10 +70,14 @@ nothing_found graph =
       room = omega (arith, new_counted (length graph));
     }
 
-pub starts_as : (graph : List (List ℕ)) (states : List State) (left opened starts path : List ℕ) → states ≡ replicate (length graph) New → left ≡ map length graph → opened ≡ [] → starts ≡ [] → path ≡ [] → IsOngoing graph states left opened starts path 0
+pub starts_as : (graph : List (List ℕ)) (states : List State) (left opened starts path : List ℕ)
+    → states ≡ replicate (length graph) New → left ≡ map length graph → opened ≡ [] → starts ≡ [] → path ≡ []
+    → IsOngoing graph states left opened starts path 0
 starts_as graph states left opened starts path new all none_opened none_started no_path =
     subst (λ list. IsOngoing graph list left opened starts path 0) (sym new)
     (subst (λ list. IsOngoing graph (replicate (length graph) New) list opened starts path 0) (sym all)
-    (subst (λ list. IsOngoing graph (replicate (length graph) New) (map length graph) list starts path 0) (sym none_opened)
+    (subst (λ list. IsOngoing graph (replicate (length graph) New) (map length graph) list starts path 0)
+    (sym none_opened)
     (subst (λ list. IsOngoing graph (replicate (length graph) New) (map length graph) [] list path 0) (sym none_started)
-    (subst (λ list. IsOngoing graph (replicate (length graph) New) (map length graph) [] [] list 0) (sym no_path) (nothing_found graph)))))
+    (subst (λ list. IsOngoing graph (replicate (length graph) New) (map length graph) [] [] list 0)
+    (sym no_path) (nothing_found graph)))))

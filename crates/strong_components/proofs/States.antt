@@ -19,6 +19,8 @@ may-step-new starts New h = h
 may-step-new starts _ h = h
 
 -- positions that come from the start under some starts do so under others
-pub may-step-starts : (starts others : List ℕ) (x y : State) → ((i j : ℕ) → x ≡ Open i → IsFromStart starts i j → IsFromStart others i j) → MayStep starts x y → MayStep others x y
+pub may-step-starts : (starts others : List ℕ) (x y : State)
+    → ((i j : ℕ) → x ≡ Open i → IsFromStart starts i j → IsFromStart others i j)
+    → MayStep starts x y → MayStep others x y
 may-step-starts starts others (Open i) (Open j) f h = f i j refl h
 may-step-starts starts others _ _ f h = h

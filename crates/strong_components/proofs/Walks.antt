@@ -28,7 +28,9 @@ step_to_inside graph a b inside s =
     (All-get_or (All (λ c. c < length graph)) graph a [] (step_from_inside graph a b s) inside) s
 
 -- numbers that never rise along a step never rise along a walk
-pub falls_along : (graph : List (List ℕ)) (numbers : List ℕ) → ((a b : ℕ) → HasStep graph a b → slice_index numbers b ≤ slice_index numbers a) → {a b : ℕ} → Reaches graph a b → slice_index numbers b ≤ slice_index numbers a
+pub falls_along : (graph : List (List ℕ)) (numbers : List ℕ)
+    → ((a b : ℕ) → HasStep graph a b → slice_index numbers b ≤ slice_index numbers a) → {a b : ℕ} → Reaches graph a b
+    → slice_index numbers b ≤ slice_index numbers a
 falls_along graph numbers falls stay = omega arith
 falls_along graph numbers falls (go {a = a} {b = b} s w) =
     let first = falls a b s in let rest = falls_along graph numbers falls w in omega arith

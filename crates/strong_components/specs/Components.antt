@@ -21,7 +21,8 @@ pub data Reaches (graph : List (List ℕ)) : ℕ → ℕ → Type 0 where
   go : {a b c : ℕ} → HasStep graph a b → Reaches graph b c → Reaches graph a c
 
 -- The number of each place's component: numbers never rise along a step, and places with one number reach each other.
--- So two places have the same number exactly when each reaches the other. Each number below one that is given is given, too.
+-- So two places have the same number exactly when each reaches the other. Each number below one that
+-- is given is given, too.
 pub record AreComponents (graph : List (List ℕ)) (numbers : List ℕ) : Type 0 where
   pub each : length numbers ≡ length graph
   pub falls : (a b : ℕ) → HasStep graph a b → slice_index numbers b ≤ slice_index numbers a

@@ -1,5 +1,7 @@
 -- The search between two steps: what its lists say of the places and of each other.
-use Rattle.std.specs.Prelude.{◌≡◌, ◌≢◌, ℕ, ◌<◌, ◌≤◌, ◌+◌, ◌-◌, ◌*◌, ◌⊎◌, Bool, true, false, List, [], ◌∷◌, ◌++◌, length, take, Contains, count_by, sum, slice_index, slice_index_or, slice_set, nat_lt, if◌then◌else◌}
+use Rattle.std.specs.Prelude.{◌≡◌, ◌≢◌, ℕ, ◌<◌, ◌≤◌, ◌+◌, ◌-◌, ◌*◌, ◌⊎◌, Bool, true, false, List, [], ◌∷◌, ◌++◌, length}
+use Rattle.std.specs.Prelude.{take, Contains, count_by, sum, slice_index, slice_index_or, slice_set}
+use Rattle.std.specs.Prelude.{nat_lt, if◌then◌else◌}
 use Rattle.strong_components.specs.declared.search.State.{State}
 use Rattle.strong_components.specs.declared.search.State.TheVariants.{New, Open, Closed}
 use Rattle.strong_components.specs.declared.search.Search.{Search}
@@ -69,7 +71,8 @@ pub record AreLeft (graph : List (List ℕ)) (states : List State) (left path : 
   pub at_closed : (a number : ℕ) → state_at states a ≡ Closed number → slice_index left a ≡ 0
 
 -- what holds between two steps
-pub record IsOngoing (graph : List (List ℕ)) (states : List State) (left opened starts path : List ℕ) (closed : ℕ) : Type 0 where
+pub record IsOngoing (graph : List (List ℕ)) (states : List State)
+    (left opened starts path : List ℕ) (closed : ℕ) : Type 0 where
   pub fit : length states ≡ length graph
   pub are_opened : AreOpened states opened
   pub is_path : IsPath path starts (length opened)

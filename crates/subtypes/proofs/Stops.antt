@@ -22,24 +22,28 @@ status_in_range (Ok false) status is = omega arith
 status_in_range (Err stop) status is = let e = (early stop).1 in omega (arith, is, e)
 
 -- 0 and 1 tell that it came to its end
-pub told_by_status : (P : Bool → Type 0) (came : Result Bool Stop) (status : ℕ) → status ≡ status_after came → IfOk came P → status ≤ 1 → P (status == 0)
+pub told_by_status : (P : Bool → Type 0) (came : Result Bool Stop) (status : ℕ) → status ≡ status_after came
+    → IfOk came P → status ≤ 1 → P (status == 0)
 told_by_status P (Ok true) status is told low = rw is told
 told_by_status P (Ok false) status is told low = rw is told
 told_by_status P (Err stop) status is told low = let e = (early stop).0 in absurd (omega (arith, is, low, e))
 
 module _ (P : Type 0) where
-  pub done_by_status : (came : Result Bool Stop) (status : ℕ) → status ≡ status_after came → OnOk came P → status ≤ 1 → P
+  pub done_by_status : (came : Result Bool Stop) (status : ℕ)
+      → status ≡ status_after came → OnOk came P → status ≤ 1 → P
   done_by_status (Ok done_fine) status is done low = done
   done_by_status (Err stop) status is done low = let e = (early stop).0 in absurd (omega (arith, is, low, e))
 
   -- 2 tells that the text was refused
-  pub refused_by_status : (came : Result Bool Stop) (status : ℕ) → status ≡ status_after came → IfErr came (λ stop. status_of stop ≡ 2 → P) → status ≡ 2 → P
+  pub refused_by_status : (came : Result Bool Stop) (status : ℕ) → status ≡ status_after came
+      → IfErr came (λ stop. status_of stop ≡ 2 → P) → status ≡ 2 → P
   refused_by_status (Ok true) status is refused two = absurd (omega arith)
   refused_by_status (Ok false) status is refused two = absurd (omega arith)
   refused_by_status (Err stop) status is refused two = refused (sym is ∙ two)
 
   -- 3 and 4 tell that it ended early
-  pub stopped_by_status : (came : Result Bool Stop) (status : ℕ) → status ≡ status_after came → OnErr came P → 2 < status → P
+  pub stopped_by_status : (came : Result Bool Stop) (status : ℕ)
+      → status ≡ status_after came → OnErr came P → 2 < status → P
   stopped_by_status (Ok true) status is stopped high = absurd (omega arith)
   stopped_by_status (Ok false) status is stopped high = absurd (omega arith)
   stopped_by_status (Err stop) status is stopped high = stopped

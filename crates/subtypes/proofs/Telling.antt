@@ -12,6 +12,8 @@ module _ (table : TypeTable) where
   none_right = λ k d l. absurd (omega arith)
 
   -- one question more
-  pub one_more_right : (pair : Pair) (came : Came) → IfOk came (IsTold table pair) → (all : List (AnsweredQuestion Pair Came)) →
+  pub one_more_right : (pair : Pair) (came : Came) → IfOk came (IsTold table pair) →
+      (all : List (AnsweredQuestion Pair Came)) →
       AreRight table all → AreRight table (all ++ record { question = pair; came = came } ∷ [])
-  one_more_right pair came is all right = All-push (λ a. IfOk a.came (IsTold table a.question)) all (record { question = pair; came = came }) right is
+  one_more_right pair came is all right =
+      All-push (λ a. IfOk a.came (IsTold table a.question)) all (record { question = pair; came = came }) right is

@@ -23,7 +23,8 @@ Came = Result Told (Fault Pair Outcome)
 
 -- the line of a question, which is asked by its pair
 abbrev pub line_of : TypeTable → asked.AnsweredQuestion Pair Came → List ℕ
-line_of table answered = line_told (name_of table answered.question.left) (name_of table answered.question.right) answered.came
+line_of table answered =
+    line_told (name_of table answered.question.left) (name_of table answered.question.right) answered.came
 
 -- the pairs were answered as is right, unless a fault was met
 abbrev pub AreRight : TypeTable → List (asked.AnsweredQuestion Pair Came) → Type 0

@@ -28,11 +28,14 @@ IsFound search pair = (place : ℕ) × IsAt search place pair
 
 -- the step leads to the pair from the one at this place
 abbrev pub ComesFrom : Search → Pair → (from : ℕ) → Step → Type 0
-ComesFrom search pair from step = (earlier : Pair) × IsAt search from earlier × IsStep (types_in search) step earlier pair
+ComesFrom search pair from step =
+    (earlier : Pair) × IsAt search from earlier × IsStep (types_in search) step earlier pair
 
--- What holds between two steps: no pair is below, each but the first comes from an earlier one, and what was seen was found.
+-- What holds between two steps: no pair is below, each but the first comes from an earlier one, and
+-- what was seen was found.
 pub record IsSearch (search : Search) : Type 0 where
-  pub not_below : (place : ℕ) (pair : Pair) → IsAt search place pair → IsBelow (types_in search) pair.left pair.right → ⊥
+  pub not_below : (place : ℕ) (pair : Pair) → IsAt search place pair
+      → IsBelow (types_in search) pair.left pair.right → ⊥
   pub is_linked : (place : ℕ) (found : Found) → slice_get search.found.items place ≡ Some found → 0 < place →
       (found.from < place) × ComesFrom search found.pair found.from found.step
   pub seen : All (IsFound search) search.seen.keys
@@ -40,7 +43,8 @@ pub record IsSearch (search : Search) : Type 0 where
 -- the types are the same, and what was found stays at its place
 pub record GoesOn (old new : Search) : Type 0 where
   pub types : types_in new ≡ types_in old
-  pub kept : (place : ℕ) (found : Found) → slice_get old.found.items place ≡ Some found → slice_get new.found.items place ≡ Some found
+  pub kept : (place : ℕ) (found : Found) → slice_get old.found.items place ≡ Some found
+      → slice_get new.found.items place ≡ Some found
 
 -- each of these pairs was found, or a simulation shows that it is below
 pub record AreCovered (search : Search) (AreThese : Pair → Type 0) : Type 0 where

@@ -1,11 +1,13 @@
 -- What a question came to, from what the search promises.
-use Rattle.std.proofs.Common.{◌≡◌, ℕ, Bool, true, false, List, [], ◌∷◌, ◌++◌, Option, Some, None, Ok, Err, Result, ap, sym, refl, subst, ◌∙◌}
+use Rattle.std.proofs.Common.{◌≡◌, ℕ, Bool, true, false, List, [], ◌∷◌, ◌++◌, Option, Some, None, Ok, Err, Result, ap}
+use Rattle.std.proofs.Common.{sym, refl, subst, ◌∙◌}
 use Rattle.std.proofs.lemmas.List.Elements.{All-nil, All-push}
 use Rattle.std.specs.Prelude.{IfOk, IfSome}
 use Rattle.search_context.specs.declared.context.Answer.{Answer}
 use Rattle.answer_lines.specs.declared.goals.Told.{Told}
 use Rattle.answer_lines.specs.declared.goals.Check.TheVariants.{Accepted}
-use Rattle.table_runs.specs.Below.{CxOf, DelegateOf, Cache, Fault, Goal, Graph, HasRun, IsSoundCache, NodeId, Outcome, IsPaid, verdicts}
+use Rattle.table_runs.specs.Below.{CxOf, DelegateOf, Cache, Fault, Goal, Graph, HasRun, IsSoundCache, NodeId, Outcome}
+use Rattle.table_runs.specs.Below.{IsPaid, verdicts}
 use Rattle.table_runs.specs.declared.program.questions.Checks.{Checks}
 use Rattle.table_runs.specs.Right.{AreShown, IsRightOutcome, SomeGraphShows}
 use Rattle.table_runs.specs.Told.{AnsweredQuestion, AreRight, IsRightlyTold}
@@ -16,23 +18,33 @@ IfSome-weaker None P Q f h = tt
 IfSome-weaker (Some x) P Q f h = f x h
 
 -- the results of equal answers
-pub result_of : {E : Type 0} (r s : Result (Answer Outcome) E) (a b : Answer Outcome) → r ≡ s → r ≡ Ok a → s ≡ Ok b → a.result ≡ b.result
+pub result_of : {E : Type 0} (r s : Result (Answer Outcome) E) (a b : Answer Outcome) → r ≡ s
+    → r ≡ Ok a → s ≡ Ok b → a.result ≡ b.result
 result_of r s a b e x y = let same : a ≡ b = cc in ap (λ answer. answer.result) same
 
 -- a price under equal numbers
-pub paid : (runs root depth last old before new started : ℕ) → root ≡ depth → old ≡ before → started ≡ new → IsPaid runs root last old new → IsPaid runs depth last before started
-paid runs root depth last old before new started r o s h = subst (λ n. IsPaid runs depth last before n) (sym s) (subst (λ n. IsPaid runs depth last n new) o (subst (λ n. IsPaid runs n last old new) r h))
+pub paid : (runs root depth last old before new started : ℕ) → root ≡ depth → old ≡ before → started ≡ new
+    → IsPaid runs root last old new → IsPaid runs depth last before started
+paid runs root depth last old before new started r o s h = subst (λ n. IsPaid runs depth last before n) (sym s)
+    (subst (λ n. IsPaid runs depth last n new) o (subst (λ n. IsPaid runs n last old new) r h))
 
 -- a call that was made on a new graph, with a new builder, as it is told
-pub call_told : {D C V P F A T : Type 0} (G : DelegateOf D C V P F Goal Outcome A T) (X : CxOf C Goal Outcome A T) (same : Goal → Goal → Bool) (same_result : Outcome → Outcome → Bool)
-    (goal : Goal) (depth : ℕ) (before after : Cache C Goal Outcome A T) (noop : Bool) (graph left : Graph) (from to started : ℕ) (answer : Answer Outcome)
+pub call_told : {D C V P F A T : Type 0} (G : DelegateOf D C V P F Goal Outcome A T) (X : CxOf C Goal Outcome A T)
+    (same : Goal → Goal → Bool) (same_result : Outcome → Outcome → Bool)
+    (goal : Goal) (depth : ℕ) (before after : Cache C Goal Outcome A T) (noop : Bool) (graph left : Graph)
+    (from to started : ℕ) (answer : Answer Outcome)
     → noop ≡ true → graph ≡ record { root_depth = depth; limits_met = false } → from ≡ 0 → started ≡ to
     → HasRun G X same same_result (call_on noop goal before graph from answer after left to)
-    → HasRun G X same same_result (call_on true goal before (record { root_depth = depth; limits_met = false }) 0 answer after (record { root_depth = depth; limits_met = left.limits_met }) started)
-call_told G X same same_result goal depth before after noop graph left from to started answer is_noop is_graph none counted ran =
+    → HasRun G X same same_result (call_on true goal before (record { root_depth = depth; limits_met = false }) 0 answer
+    after (record { root_depth = depth; limits_met = left.limits_met }) started)
+call_told G X same same_result goal depth before after noop graph left from to started
+    answer is_noop is_graph none counted ran =
     let new : Graph = record { root_depth = depth; limits_met = false } in
-    subst (λ n. HasRun G X same same_result (call_on true goal before new 0 answer after (record { root_depth = depth; limits_met = left.limits_met }) n)) (sym counted)
-    (subst (λ d. HasRun G X same same_result (call_on true goal before new 0 answer after (record { root_depth = d; limits_met = left.limits_met }) to)) (ran.same_depth ∙ ap (λ g. g.root_depth) is_graph)
+    subst (λ n. HasRun G X same same_result (call_on true goal before new 0 answer after
+    (record { root_depth = depth; limits_met = left.limits_met }) n)) (sym counted)
+    (subst (λ d. HasRun G X same same_result
+    (call_on true goal before new 0 answer after (record { root_depth = d; limits_met = left.limits_met }) to))
+    (ran.same_depth ∙ ap (λ g. g.root_depth) is_graph)
     (subst (λ n. HasRun G X same same_result (call_on true goal before new n answer after left to)) none
     (subst (λ g. HasRun G X same same_result (call_on true goal before g from answer after left to)) is_graph
     (subst (λ b. HasRun G X same same_result (call_on b goal before graph from answer after left to)) is_noop ran))))
@@ -45,11 +57,13 @@ told_rightly : {C A T : Type 0} (X : CxOf C Goal Outcome A T) (cx : C) (goal : G
 told_rightly X cx goal (Ok told) right shown = record { right = right; shown = shown }
 told_rightly X cx goal (Err fault) right shown = tt
 
-module _ {D C V P F A T : Type 0} (G : DelegateOf D C V P F Goal Outcome A T) (X : CxOf C Goal Outcome A T) (same : Goal → Goal → Bool) (same_result : Outcome → Outcome → Bool) (checks : Checks) where
+module _ {D C V P F A T : Type 0} (G : DelegateOf D C V P F Goal Outcome A T) (X : CxOf C Goal Outcome A T)
+    (same : Goal → Goal → Bool) (same_result : Outcome → Outcome → Bool) (checks : Checks) where
   -- one question more
   InTurn-more : (before between after : Cache C Goal Outcome A T) (last : AnsweredQuestion) →
       IsAnswered G X same same_result checks between last after → IsSoundCache same (verdicts X) G.script after →
-      (all : List AnsweredQuestion) → InTurn G X same same_result checks before all between → InTurn G X same same_result checks before (all ++ last ∷ []) after
+      (all : List AnsweredQuestion) → InTurn G X same same_result checks before all between →
+      InTurn G X same same_result checks before (all ++ last ∷ []) after
   InTurn-more before between after last is sound [] h =
       (after, subst (λ cache. IsAnswered G X same same_result checks cache last after) (sym h) is, sound, refl)
   InTurn-more before between after last is sound (first ∷ others) h =
@@ -57,7 +71,8 @@ module _ {D C V P F A T : Type 0} (G : DelegateOf D C V P F Goal Outcome A T) (X
 
   module _ (cx : C) where
     -- The questions were answered in turn, and left this cache. What is remembered as shown is shown by the rules.
-    pub record HaveLed (cache : Cache C Goal Outcome A T) (shown : List (Goal × Outcome × NodeId)) (answered : List AnsweredQuestion) : Type 0 where
+    pub record HaveLed (cache : Cache C Goal Outcome A T) (shown : List (Goal × Outcome × NodeId))
+        (answered : List AnsweredQuestion) : Type 0 where
       pub in_turn : LeaveCache G X same same_result checks cx cache answered
       pub same_context : cache.cx ≡ cx
       pub are_shown : AreShown X cx shown
@@ -85,7 +100,8 @@ module _ {D C V P F A T : Type 0} (G : DelegateOf D C V P F Goal Outcome A T) (X
 
     -- one question more, over the cache that the others left
     pub led_on : (before after : Cache C Goal Outcome A T) (old new : List (Goal × Outcome × NodeId))
-        (last : AnsweredQuestion) → IsAnswered G X same same_result checks before last after → IsSoundCache same (verdicts X) G.script after →
+        (last : AnsweredQuestion) → IsAnswered G X same same_result checks before last after →
+        IsSoundCache same (verdicts X) G.script after →
         IfOk last.came (λ told. IsRightOutcome X before.cx last.question.1 told.outcome) →
         (AreShown X before.cx old →
         IfOk last.came (λ told. told.check ≡ Accepted → SomeGraphShows X before.cx last.question.1 told.outcome)) →

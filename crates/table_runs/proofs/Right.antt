@@ -1,5 +1,6 @@
 -- What an answer is worth by the rules alone, by what the search promises, and by what the checker accepts.
-use Rattle.std.proofs.Common.{◌≡◌, ◌↔◌, Bool, true, false, List, [], ◌∷◌, None, Some, Option, Ok, Err, Result, IfOk, IsTrue, inl, inr, refl, subst, sym}
+use Rattle.std.proofs.Common.{◌≡◌, ◌↔◌, Bool, true, false, List, [], ◌∷◌, None, Some, Option, Ok, Err, Result, IfOk}
+use Rattle.std.proofs.Common.{IsTrue, inl, inr, refl, subst, sym}
 use Rattle.std.proofs.lemmas.Bool.{false≢true, or_cases}
 use Rattle.std.proofs.lemmas.List.Elements.{All-cons, All-head, All-tail}
 use Rattle.std.proofs.lemmas.List.Sorted.{All-permutation}
@@ -9,7 +10,9 @@ use Rattle.std.specs.List.Sorted.{IsPermutation}
 use Rattle.search_context.specs.declared.context.Answer.{Answer}
 use Rattle.search_context.specs.declared.context.Verdict.TheVariants as verdict
 use Rattle.graph_nodes.specs.Nodes.{graph_nodes_of}
-use Rattle.table_runs.specs.Below.{Cache, CxOf, Goal, HasProof, HasRefutation, IsProofGraph, IsProved, IsRefutationGraph, IsRefuted, IsValidFor, Node, NodeId, NoMemory, Outcome, Reply, Request, Verdict, goal_nodes_of, verdicts}
+use Rattle.table_runs.specs.Below.{Cache, CxOf, Goal, HasProof, HasRefutation, IsProofGraph, IsProved}
+use Rattle.table_runs.specs.Below.{IsRefutationGraph, IsRefuted, IsValidFor, Node, NodeId, NoMemory, Outcome, Reply}
+use Rattle.table_runs.specs.Below.{Request, Verdict, goal_nodes_of, verdicts}
 use Rattle.table_runs.specs.Right.{IsRightOutcome, Proved, Refuted, SomeGraphShows}
 
 -- ---- by the search
@@ -34,7 +37,8 @@ module _ {C A T : Type 0} (X : CxOf C Goal Outcome A T) (cache : Cache C Goal Ou
 
 -- ---- by the checker
 
-module _ {C A T : Type 0} (X : CxOf C Goal Outcome A T) (scripts : Goal → List (Reply Outcome) → Request Goal Outcome) (cx : C) (goal : Goal) (outcome : Outcome) (nodes : List (Node Goal Outcome)) where
+module _ {C A T : Type 0} (X : CxOf C Goal Outcome A T) (scripts : Goal → List (Reply Outcome) → Request Goal Outcome)
+    (cx : C) (goal : Goal) (outcome : Outcome) (nodes : List (Node Goal Outcome)) where
   -- what was accepted shows the outcome
   pub accepted_shows : (sort : Verdict) → ((sort ≡ verdict.Yes) ↔ IsTrue (X.is_yes outcome)) →
       ((sort ≡ verdict.No) ↔ IsTrue (X.is_no outcome)) → (checked : Result Bool NoMemory) →
@@ -64,7 +68,8 @@ any_gives P Q test gives (k ∷ ks) found all =
 
 -- an equal goal that came to an equal outcome is shown, too
 pub same_shown : {C A T : Type 0} (X : CxOf C Goal Outcome A T) (cx : C) (goal other : Goal)
-    (outcome came : Outcome) → goal ≡ other → outcome ≡ came → SomeGraphShows X cx other came → SomeGraphShows X cx goal outcome
+    (outcome came : Outcome) → goal ≡ other → outcome ≡ came
+    → SomeGraphShows X cx other came → SomeGraphShows X cx goal outcome
 same_shown X cx goal other outcome came same_goal same_outcome shown =
     subst (λ g. SomeGraphShows X cx g outcome) (sym same_goal)
     (subst (SomeGraphShows X cx other) (sym same_outcome) shown)

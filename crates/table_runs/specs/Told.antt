@@ -31,7 +31,8 @@ pub record IsChecked (says : Verdicts Outcome) (checks : Checks) (outcome : Outc
   pub not_refused : check ≢ Refused
 
 -- By the rules alone what is told is right, and it is told as accepted only if a graph shows it.
-pub record IsRightlyTold {C A T : Type 0} (X : CxOf C Goal Outcome A T) (cx : C) (goal : Goal) (told : Told) : Type 0 where
+pub record IsRightlyTold {C A T : Type 0} (X : CxOf C Goal Outcome A T) (cx : C)
+    (goal : Goal) (told : Told) : Type 0 where
   pub right : IsRightOutcome X cx goal told.outcome
   pub shown : told.check ≡ Accepted → SomeGraphShows X cx goal told.outcome
 

@@ -1,7 +1,8 @@
 -- How goals of a table, results and kinds of steps are written.
 use Rattle.std.specs.Prelude.{ℕ, List, [], codes}
 use Rattle.std.specs.Option.{unwrap_or}
-use Rattle.table_words.specs.Below.{PathKind, Coinductive, ForcedAmbiguity, Inductive, Unknown, Outcome, word_of, WordsOf, name_of, Goal, Rules}
+use Rattle.table_words.specs.Below.{PathKind, Coinductive, ForcedAmbiguity, Inductive, Unknown, Outcome, word_of}
+use Rattle.table_words.specs.Below.{WordsOf, name_of, Goal, Rules}
 
 -- the letter of a kind
 abbrev pub kind_letter : PathKind → List ℕ

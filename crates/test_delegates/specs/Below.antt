@@ -9,6 +9,7 @@ pub use Rattle.search_context.specs.Run.{EndsIn, Fits, progress_after, questions
 pub use Rattle.search_context.specs.declared.context.Reply.{Reply}
 pub use Rattle.search_context.specs.declared.context.Reply.TheVariants.{Answer, Begin, Noted}
 pub use Rattle.search_context.specs.declared.context.Request.{Request}
-pub use Rattle.search_context.specs.declared.context.Request.TheVariants.{Done, EnterCandidate, Evaluate, FinishCandidate}
+pub use Rattle.search_context.specs.declared.context.Request.TheVariants.{Done, EnterCandidate}
+pub use Rattle.search_context.specs.declared.context.Request.TheVariants.{Evaluate, FinishCandidate}
 pub use Rattle.search_context.specs.declared.context.Request.TheVariants.{Ignore}
 pub use Rattle.graph_nodes.specs.Nodes.{EndedRun, IsNodeOf, open_goal, with_run}

@@ -55,7 +55,8 @@ outcome_after (r ∷ earlier) = with_reply (outcome_after earlier) r
 -- the request after these replies, and before the first one none that counts
 abbrev pub script_of : (is_zero asks_twice : Bool) → Count → List (Reply Outcome) → Request Count Outcome
 script_of is_zero asks_twice goal [] = Done Maybe
-script_of is_zero asks_twice goal (r ∷ earlier) = request_of is_zero asks_twice goal (stage_after earlier) (outcome_after (r ∷ earlier))
+script_of is_zero asks_twice goal (r ∷ earlier) =
+    request_of is_zero asks_twice goal (stage_after earlier) (outcome_after (r ∷ earlier))
 
 abbrev pub count_script : Countdown → Count → List (Reply Outcome) → Request Count Outcome
 count_script cx goal = script_of (goal.0 == 0) cx.asks_twice goal

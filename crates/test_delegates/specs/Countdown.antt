@@ -16,14 +16,17 @@ Proves goal held = (goal.0 ≡ 0) ⊎ Contains held (question_below goal)
 abbrev pub Refutes : Count → List (Question Count) → Type 0
 Refutes goal failed = (0 < goal.0) × Contains failed (question_below goal)
 
-pub proves_more : (goal : Count) (some more : List (Question Count)) → IsWithin some more → Proves goal some → Proves goal more
+pub proves_more : (goal : Count) (some more : List (Question Count)) → IsWithin some more
+    → Proves goal some → Proves goal more
 proves_more goal some more within (inl is_zero) = inl is_zero
 proves_more goal some more within (inr held) = inr (within (question_below goal) held)
 
-pub refutes_more : (goal : Count) (some more : List (Question Count)) → IsWithin some more → Refutes goal some → Refutes goal more
+pub refutes_more : (goal : Count) (some more : List (Question Count)) → IsWithin some more
+    → Refutes goal some → Refutes goal more
 refutes_more goal some more within (above, failed) = (above, within (question_below goal) failed)
 
-pub clash : (goal : Count) (held failed : List (Question Count)) → Proves goal held → Refutes goal failed → Overlap held failed
+pub clash : (goal : Count) (held failed : List (Question Count)) → Proves goal held
+    → Refutes goal failed → Overlap held failed
 clash goal held failed (inl is_zero) (above, k) = absurd (omega arith)
 clash goal held failed (inr h) (above, k) = (question_below goal, h, k)
 

@@ -10,10 +10,12 @@ its_question goal = record { kind = goal; goal = goal }
 abbrev pub HasItsQuestion : PathKind → List (Question PathKind) → Type 0
 HasItsQuestion goal questions = Contains questions (its_question goal)
 
-pub asks_more : (goal : PathKind) (some more : List (Question PathKind)) → IsWithin some more → HasItsQuestion goal some → HasItsQuestion goal more
+pub asks_more : (goal : PathKind) (some more : List (Question PathKind)) → IsWithin some more
+    → HasItsQuestion goal some → HasItsQuestion goal more
 asks_more goal some more within asks = within (its_question goal) asks
 
-pub clash : (goal : PathKind) (held failed : List (Question PathKind)) → HasItsQuestion goal held → HasItsQuestion goal failed → Overlap held failed
+pub clash : (goal : PathKind) (held failed : List (Question PathKind)) → HasItsQuestion goal held
+    → HasItsQuestion goal failed → Overlap held failed
 clash goal held failed h k = (its_question goal, h, k)
 
 -- the run of a goal whose question was answered, with its one edge

@@ -1,8 +1,12 @@
 -- What is shown of questions.
-use Rattle.std.specs.Prelude.{◌≡◌, ℕ, ◌+◌, ◌≤◌, ◌&&◌, codes, if◌then◌else◌, nat_eq, not, max, All, Bool, true, false, List, [], ◌∷◌, ◌++◌, is_ok, Option, Result, IfOk, IfErr}
+use Rattle.std.specs.Prelude.{◌≡◌, ℕ, ◌+◌, ◌≤◌, ◌&&◌, codes, if◌then◌else◌, nat_eq, not, max, All, Bool, true, false}
+use Rattle.std.specs.Prelude.{List, [], ◌∷◌, ◌++◌, is_ok, Option, Result, IfOk, IfErr}
 use Rattle.answer_lines.specs.Trees.{answer_words}
 use Rattle.line_texts.specs.Questions as asked
-use Rattle.trees.specs.Below.{Answer, Builder, Cache, CxOf, DelegateOf, entries_of, Fault, frames_within, Goal, Graph, HasRun, inner_of, IsCaused, IsPlainTo, IsPlainValue, IsProved, IsRefuted, is_whole, Memory, name_or_none, number_of, Outcome, questions_of, Recorder, records, Rules, started_in, text_of, words_of}
+use Rattle.trees.specs.Below.{Answer, Builder, Cache, CxOf, DelegateOf, entries_of, Fault, frames_within, Goal, Graph}
+use Rattle.trees.specs.Below.{HasRun, inner_of, IsCaused, IsPlainTo, IsPlainValue, IsProved, IsRefuted, is_whole}
+use Rattle.trees.specs.Below.{Memory, name_or_none, number_of, Outcome, questions_of, Recorder, records, Rules}
+use Rattle.trees.specs.Below.{started_in, text_of, words_of}
 
 -- what was recorded of a question, and the answer or the fault that it came to
 pub record Tree : Type 0 where
@@ -21,11 +25,14 @@ is_fine tree = is_ok tree.came
 abbrev pub same_goal : Goal → Goal → Bool
 same_goal a b = nat_eq (number_of a) (number_of b)
 
--- Where a goal was answered, and what was recorded does not begin with its first run or not end with the end of one, a line says so.
+-- Where a goal was answered, and what was recorded does not begin with its first run or not end with the end
+-- of one, a line says so.
 abbrev pub doubt_words : Goal → Tree → List ℕ
-doubt_words goal tree = if is_ok tree.came && not (is_whole same_goal goal (entries_of tree.recorder)) then codes "these entries are no tree\n" else []
+doubt_words goal tree = if is_ok tree.came && not (is_whole same_goal goal (entries_of tree.recorder))
+    then codes "these entries are no tree\n" else []
 
--- the lines of all that was recorded, and the line of what the goal came to, with the number of frames that were counted
+-- the lines of all that was recorded, and the line of what the goal came to, with the number of
+-- frames that were counted
 abbrev pub tree_words : Rules → Goal → Tree → List ℕ
 tree_words rules goal tree =
     text_of (words_of rules) (entries_of tree.recorder) ++ doubt_words goal tree ++ name_or_none rules goal
@@ -41,9 +48,10 @@ pub record IsFresh (recorder : Recorder Builder Goal Outcome) : Type 0 where
   pub no_entries : entries_of recorder ≡ []
   pub no_frames : started_in (inner_of recorder) ≡ 0
 
-module _ {D C V F A T : Type 0} (G : DelegateOf D C V (Recorder Builder Goal Outcome) F Goal Outcome A T) (X : CxOf C Goal Outcome A T) (same : Goal → Goal → Bool) (same_result : Outcome → Outcome → Bool) where
-  -- The question's goal was worked out at its depth over an empty cache, before a fresh recorder. What it came to is what the
-  -- search promises of such a call.
+module _ {D C V F A T : Type 0} (G : DelegateOf D C V (Recorder Builder Goal Outcome) F Goal Outcome A T)
+    (X : CxOf C Goal Outcome A T) (same : Goal → Goal → Bool) (same_result : Outcome → Outcome → Bool) where
+  -- The question's goal was worked out at its depth over an empty cache, before a fresh recorder. What it came to is
+  -- what the search promises of such a call.
   pub record IsWorkedOut (cx : C) (shown : ShownQuestion) : Type 0 where
     pub fresh : Recorder Builder Goal Outcome
     pub is_fresh : IsFresh fresh
@@ -54,9 +62,12 @@ module _ {D C V F A T : Type 0} (G : DelegateOf D C V (Recorder Builder Goal Out
     pub after : Cache C Goal Outcome A T
     pub same_context : after.cx ≡ before.cx
     -- The cache has the answer's proof graph if it is yes, and its refutation graph if it is no.
-    pub proof : IfOk shown.came.came (λ answer. X.is_yes answer.result ≡ true → IsProved X after shown.question.1 answer.node)
-    pub refutation : IfOk shown.came.came (λ answer. X.is_no answer.result ≡ true → IsRefuted X after shown.question.1 answer.node)
-    -- A goal whose questions go no deeper than the depth, and that is orderly with all goals below it, has its plain value.
+    pub proof : IfOk shown.came.came
+        (λ answer. X.is_yes answer.result ≡ true → IsProved X after shown.question.1 answer.node)
+    pub refutation : IfOk shown.came.came
+        (λ answer. X.is_no answer.result ≡ true → IsRefuted X after shown.question.1 answer.node)
+    -- A goal whose questions go no deeper than the depth, and that is orderly with all goals below
+    -- it, has its plain value.
     pub plain : (n : ℕ) → IsPlainTo (G.script before.cx) n shown.question.1 → n ≤ shown.question.0
         → IfOk shown.came.came (λ answer. IsPlainValue (G.script before.cx) n shown.question.1 answer.result)
     pub plain_faults : (n : ℕ) → IsPlainTo (G.script before.cx) n shown.question.1 → n ≤ shown.question.0
@@ -64,14 +75,19 @@ module _ {D C V F A T : Type 0} (G : DelegateOf D C V (Recorder Builder Goal Out
     -- A fault has its cause.
     pub faults : IfErr shown.came.came (IsCaused G X same after)
     -- The frames that were started are within a bound.
-    pub frames : G.starts shown.came.recorder ≤ G.starts fresh + frames_within (max 1 G.FIXPOINT_STEP_LIMIT) (G.width before.cx) shown.question.0
+    pub frames : G.starts shown.came.recorder
+        ≤ G.starts fresh + frames_within (max 1 G.FIXPOINT_STEP_LIMIT) (G.width before.cx) shown.question.0
     -- The call was made so, and left this graph: whether it met a limit, and what follows, are laws of calls.
     pub left : Graph
     pub ran : HasRun G X same same_result (record {
       goal = shown.question.1;
       noop = G.noop fresh;
       looks_up = false;
-      before = record { graph = record { root_depth = shown.question.0; limits_met = false }; cache = before; starts = G.starts fresh };
+      before = record {
+        graph = record { root_depth = shown.question.0; limits_met = false };
+        cache = before;
+        starts = G.starts fresh;
+      };
       result = shown.came.came;
       after = record { graph = left; cache = after; starts = G.starts shown.came.recorder };
     })

@@ -1,4 +1,5 @@
--- Why a goal needs no more than two runs where scripts decide: what its answers rest on stays off the goals under evaluation.
+-- Why a goal needs no more than two runs where scripts decide: what its answers rest on stays off the
+-- goals under evaluation.
 pub mod Leading
 pub mod StoppedWalks
 pub mod OlderEntries

@@ -6,7 +6,10 @@ use Rattle.search_rules.specs.Runs.{runs_of}
 use Rattle.two_runs.specs.Settled.{IsOff}
 
 -- each goal has one entry at most, and one that has an entry is not under evaluation and not lone
-pub record StandApart {X F I R A T : Type 0} (same : I → I → Bool) (results : Store I (StoredResult X I R A T)) (goals : List (OpenGoal X F I R A T)) (entries : Lists I (ProvisionalCacheEntry X I R A T)) : Type 0 where
+pub record StandApart {X F I R A T : Type 0} (same : I → I → Bool) (results : Store I (StoredResult X I R A T))
+    (goals : List (OpenGoal X F I R A T)) (entries : Lists I (ProvisionalCacheEntry X I R A T)) : Type 0 where
   pub one : (goal : I) → length (entries_at same entries goal) ≤ 1
-  pub off : (goal : I) (entry : ProvisionalCacheEntry X I R A T) → Contains (entries_at same entries goal) entry → IsOff (runs_of goals) goal
-  pub not_lone : (goal : I) (entry : ProvisionalCacheEntry X I R A T) → Contains (entries_at same entries goal) entry → IsLone same results goal → ⊥
+  pub off : (goal : I) (entry : ProvisionalCacheEntry X I R A T)
+      → Contains (entries_at same entries goal) entry → IsOff (runs_of goals) goal
+  pub not_lone : (goal : I) (entry : ProvisionalCacheEntry X I R A T)
+      → Contains (entries_at same entries goal) entry → IsLone same results goal → ⊥

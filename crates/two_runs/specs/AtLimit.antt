@@ -9,7 +9,8 @@ abbrev pub is_at_limit : {C I R A T : Type 0} → Result (Option (RebaseReason C
 is_at_limit (Err AtLimit) = true
 is_at_limit _ = false
 
-module _ {D C V P F I R A T : Type 0} (G : DelegateOf D C V P F I R A T) (same_result : R → R → Bool) (outcome : R) (before : Evaluation D C V P F I R A T) where
+module _ {D C V P F I R A T : Type 0} (G : DelegateOf D C V P F I R A T) (same_result : R → R → Bool) (outcome : R)
+    (before : Evaluation D C V P F I R A T) where
   -- a limit was met before, or is met now since the goal had its most runs
   pub record MeetsLimitAtEnd (met : Bool) : Type 0 where
     pub entry : StackEntry C I R A T

@@ -29,11 +29,13 @@ pub use Rattle.search_context.specs.declared.context.NodeId.{NodeId}
 pub use Rattle.search_context.specs.declared.context.Reply.{Reply}
 pub use Rattle.search_context.specs.declared.context.Reply.TheVariants.{Answer, Begin, Noted}
 pub use Rattle.search_context.specs.declared.context.Request.{Request}
-pub use Rattle.search_context.specs.declared.context.Request.TheVariants.{Done, EnterCandidate, Evaluate, FinishCandidate, Ignore}
+pub use Rattle.search_context.specs.declared.context.Request.TheVariants.{Done, EnterCandidate, Evaluate}
+pub use Rattle.search_context.specs.declared.context.Request.TheVariants.{FinishCandidate, Ignore}
 pub use Rattle.search_context.specs.declared.context.Verdict.{Verdict}
 pub use Rattle.search_context.specs.declared.context.Verdict.TheVariants.{Neither, No, Yes}
 pub use Rattle.goal_paths.specs.Nested.{NestedPaths, paths_at}
-pub use Rattle.graph_nodes.specs.Nodes.{AreRuns, CacheNode, EndedRun, IsNodeOf, KeepsFinished, KeepsGoals, open_node, with_run}
+pub use Rattle.graph_nodes.specs.Nodes.{AreRuns, CacheNode, EndedRun, IsNodeOf, KeepsFinished, KeepsGoals}
+pub use Rattle.graph_nodes.specs.Nodes.{open_node, with_run}
 pub use Rattle.graph_nodes.specs.Shapes.{shape_of, shapes_of}
 pub use Rattle.search_stack.specs.Cycle.{path_kind_from}
 pub use Rattle.search_stack.specs.Hit.{Hit}
@@ -46,7 +48,8 @@ pub use Rattle.provisional_cache.specs.Rebasing.{but_highest, changed_for, rebas
 pub use Rattle.provisional_cache.specs.Reuse.{asking_heads, depends_on, has_head_up_to, may_be_used}
 pub use Rattle.provisional_cache.specs.declared.ProvisionalCacheEntry.{ProvisionalCacheEntry}
 pub use Rattle.provisional_cache.specs.declared.RebaseReason.{RebaseReason}
-pub use Rattle.provisional_cache.specs.declared.RebaseReason.TheVariants.{Ambiguity, NoCycleUsages, Overflow, ReachedFixpoint}
+pub use Rattle.provisional_cache.specs.declared.RebaseReason.TheVariants.{Ambiguity, NoCycleUsages}
+pub use Rattle.provisional_cache.specs.declared.RebaseReason.TheVariants.{Overflow, ReachedFixpoint}
 pub use Rattle.global_cache.specs.Cache.{Cache}
 pub use Rattle.global_cache.specs.Hits.{first_accepted, usable}
 pub use Rattle.global_cache.specs.Store.{place_of, Store, stored_at, stored_from}
@@ -56,13 +59,15 @@ pub use Rattle.global_cache.specs.declared.results.StoredResult.{StoredResult}
 pub use Rattle.evaluations.specs.Enclosed.{IsEnclosed}
 pub use Rattle.evaluations.specs.Frames.{IsAllowed}
 pub use Rattle.evaluations.specs.Mirror.{AreSeen}
-pub use Rattle.run_records.specs.Progress.{edge_to, edges_of, KeepsAnswer, no_record, open_number, received, requested, RunRecord}
+pub use Rattle.run_records.specs.Progress.{edge_to, edges_of, KeepsAnswer, no_record, open_number, received}
+pub use Rattle.run_records.specs.Progress.{requested, RunRecord}
 pub use Rattle.run_records.specs.Steps.{IsVerdict, received_by}
 pub use Rattle.run_records.specs.declared.progress.DefiniteAnswer.{DefiniteAnswer}
 pub use Rattle.run_records.specs.declared.runs.Received.{Received}
 pub use Rattle.run_records.specs.declared.runs.Run.{Run}
 pub use Rattle.goal_changes.specs.Candidates.{enters, finishes, NotesCandidate}
-pub use Rattle.goal_changes.specs.Entries.{first_entry, is_in_cycle, joined_over, some_heads, with_depth, with_nested_goals}
+pub use Rattle.goal_changes.specs.Entries.{first_entry, is_in_cycle, joined_over, some_heads}
+pub use Rattle.goal_changes.specs.Entries.{with_depth, with_nested_goals}
 pub use Rattle.goal_changes.specs.Items.{AnswersNewest, rerun_with, with_no_record}
 pub use Rattle.goal_changes.specs.NestedGoals.{NestsAnswer, NestsHead, TakesStored}
 pub use Rattle.goal_changes.specs.Newest.{change_newest, newest}

@@ -1,5 +1,5 @@
--- Goals that rest on nothing but results like their own. Among goals that no question leads out of, with depth enough for all of them, such a
--- goal is answered by what is stored wherever it is asked, so it is never worked out again.
+-- Goals that rest on nothing but results like their own. Among goals that no question leads out of, with depth enough
+-- for all of them, such a goal is answered by what is stored wherever it is asked, so it is never worked out again.
 use Rattle.std.specs.Prelude.{◌≡◌, ◌≢◌, ◌+◌, ℕ, Bool, All, Contains, List, [], ◌∷◌, length, Some}
 use Rattle.std.specs.Option.{IsSomeAnd}
 use Rattle.two_runs.specs.Below.{OpenGoal, Store, stored_at, StoredResult, Success}
@@ -12,7 +12,8 @@ module _ {X I R A T : Type 0} (same : I → I → Bool) (results : Store I (Stor
   -- these are different goals of the list, and each is lone
   abbrev pub AreLone : (goals : List I) → List I → Type 0
   AreLone goals [] = Unit {0}
-  AreLone goals (goal ∷ others) = Contains goals goal × IsLone goal × All (λ other. other ≢ goal) others × AreLone goals others
+  AreLone goals (goal ∷ others) =
+      Contains goals goal × IsLone goal × All (λ other. other ≢ goal) others × AreLone goals others
 
   -- there are so many lone goals among these
   pub record HasLone (goals : List I) (many : ℕ) : Type 0 where
@@ -22,9 +23,11 @@ module _ {X I R A T : Type 0} (same : I → I → Bool) (results : Store I (Stor
 
   -- each lone goal of the list requires no more depth than there are other lone goals
   abbrev pub LoneRequire : List I → Type 0
-  LoneRequire goals = (goal : I) (s : StoredResult X I R A T) → Contains goals goal → stored_at same results goal Success ≡ Some s → s.nested_goals ≡ [] → HasLone goals (s.required_depth + 1)
+  LoneRequire goals = (goal : I) (s : StoredResult X I R A T) → Contains goals goal
+      → stored_at same results goal Success ≡ Some s → s.nested_goals ≡ [] → HasLone goals (s.required_depth + 1)
 
   -- no goal under evaluation is lone; and one without nested goals requires no more depth than there are lone goals
   abbrev pub NoneIsLone : {F : Type 0} → List I → List (OpenGoal X F I R A T) → Type 0
   NoneIsLone goals [] = Unit {0}
-  NoneIsLone goals (s ∷ below) = (IsLone s.0.input → ⊥) × (s.0.state.nested_goals ≡ [] → HasLone goals s.0.state.required_depth) × NoneIsLone goals below
+  NoneIsLone goals (s ∷ below) = (IsLone s.0.input → ⊥)
+      × (s.0.state.nested_goals ≡ [] → HasLone goals s.0.state.required_depth) × NoneIsLone goals below

@@ -1,5 +1,5 @@
--- Provisional entries that are older than a goal under evaluation. They rest on goals below it alone, so they stay what they are as long as
--- it is under evaluation.
+-- Provisional entries that are older than a goal under evaluation. They rest on goals below it alone, so they stay what
+-- they are as long as it is under evaluation.
 use Rattle.std.specs.Prelude.{◌≡◌, ◌<◌, ◌≤◌, ℕ, Bool, Contains, IsSome, length, List, [], ◌∷◌, Some}
 use Rattle.two_runs.specs.Below.{at_depth, entries_at, Lists, ProvisionalCacheEntry, StackDepth}
 use Rattle.search_rules.specs.Justified.{cycles_node, OpenRun}
@@ -15,8 +15,8 @@ module _ {X I R A T : Type 0} (same : I → I → Bool) (entries : Lists I (Prov
     pub there : Contains (entries_at same entries goal) entry
     pub node_is : entry.node ≡ Some (record { 0 = node })
 
-  -- The node is that of an entry which is older than the goal and rests on heads of it alone. The first node of a goal under evaluation,
-  -- to which its cycles lead, tells when it began.
+  -- The node is that of an entry which is older than the goal and rests on heads of it alone. The first node of a goal
+  -- under evaluation, to which its cycles lead, tells when it began.
   pub record IsStop (o : OpenRun I R) (node : ℕ) : Type 0 where
     pub goal : I
     pub entry : ProvisionalCacheEntry X I R A T
@@ -26,8 +26,10 @@ module _ {X I R A T : Type 0} (same : I → I → Bool) (entries : Lists I (Prov
 
   -- the other goal has no entry that is older than the goal
   abbrev pub HasNoOlder : OpenRun I R → I → Type 0
-  HasNoOlder o other = (entry : ProvisionalCacheEntry X I R A T) (node : ℕ) → HasEntry other entry node → cycles_node o ≤ node
+  HasNoOlder o other =
+      (entry : ProvisionalCacheEntry X I R A T) (node : ℕ) → HasEntry other entry node → cycles_node o ≤ node
 
   -- each entry rests on goals that began before it was made
   abbrev pub RestOnOlder : List ℕ → Type 0
-  RestOnOlder firsts = (goal : I) (entry : ProvisionalCacheEntry X I R A T) (node : ℕ) → HasEntry goal entry node → (head : StackDepth) → IsSome (at_depth entry.heads head) → BeganBefore firsts head node
+  RestOnOlder firsts = (goal : I) (entry : ProvisionalCacheEntry X I R A T) (node : ℕ) → HasEntry goal entry node
+      → (head : StackDepth) → IsSome (at_depth entry.heads head) → BeganBefore firsts head node

@@ -1,5 +1,6 @@
 -- A declared type is below itself.
-use Rattle.std.proofs.Common.{◌≡◌, ◌≢◌, ℕ, zero, suc, ◌<◌, ◌==◌, inl, inr, List, [], ◌∷◌, map, cond, length, slice_get, Contains, Option, None, Some, refl, sym, ap, subst, ◌∙◌, arith}
+use Rattle.std.proofs.Common.{◌≡◌, ◌≢◌, ℕ, zero, suc, ◌<◌, ◌==◌, inl, inr, List, [], ◌∷◌, map, cond, length, slice_get}
+use Rattle.std.proofs.Common.{Contains, Option, None, Some, refl, sym, ap, subst, ◌∙◌, arith}
 use Rattle.std.specs.List.{find}
 use Rattle.std.specs.Option.{option_map}
 use Rattle.std.proofs.lemmas.Bool.{cases_Bool}
@@ -7,8 +8,10 @@ use Rattle.std.proofs.lemmas.Bool.Decides.{eqb_tells}
 use Rattle.open_graphs.proofs.Members.{contains_later, first_or_later}
 use Rattle.type_order.specs.Fields.{Field, part_of}
 use Rattle.type_order.specs.Order.{AreDeclared}
-use Rattle.type_order.specs.Subtypes.{Base, Bottom, Form, Function, IsBelow, IsRecord, IsSimulation, IsSupportedPair, IsUnion, Record, Top, Union}
-use Rattle.type_order.specs.Subtypes.IsSupportedPair.{BottomLeft, TopRight, SameWord, Functions, Records, EachLeft, SomeRight}
+use Rattle.type_order.specs.Subtypes.{Base, Bottom, Form, Function, IsBelow, IsRecord, IsSimulation, IsSupportedPair}
+use Rattle.type_order.specs.Subtypes.{IsUnion, Record, Top, Union}
+use Rattle.type_order.specs.Subtypes.IsSupportedPair.{BottomLeft, TopRight, SameWord, Functions, Records}
+use Rattle.type_order.specs.Subtypes.IsSupportedPair.{EachLeft, SomeRight}
 use Rattle.type_order.specs.Rule.{alternatives_in}
 use Rattle.type_order.proofs.Apart.{apart, apart_new, apart_of, apart_old, has_union}
 
@@ -37,13 +40,16 @@ form_at (f ∷ fs) zero l = (f, refl)
 form_at (f ∷ fs) (suc n) l = form_at fs n (omega arith)
 
 -- the type that is found is one of those of the fields
-pub part_in : (fields : List Field) (name y : ℕ) → part_of fields name ≡ Some y → Contains (map (λ field. field.part) fields) y
+pub part_in : (fields : List Field) (name y : ℕ) → part_of fields name ≡ Some y
+    → Contains (map (λ field. field.part) fields) y
 part_in [] name y e = absurd cc
 part_in (f ∷ fs) name y e = elim (cases_Bool (f.name == name)) [
   | inl is ↦
-      let g : Some f.part ≡ Some y = subst (λ b. option_map (λ x. x.part) (cond b (Some f) (find (λ x. x.name == name) fs)) ≡ Some y) is e in
+      let g : Some f.part ≡ Some y =
+      subst (λ b. option_map (λ x. x.part) (cond b (Some f) (find (λ x. x.name == name) fs)) ≡ Some y) is e in
       (0, omega arith, cc)
-  | inr is ↦ contains_later y f.part (map (λ field. field.part) fs) (part_in fs name y (subst (λ b. option_map (λ x. x.part) (cond b (Some f) (find (λ x. x.name == name) fs)) ≡ Some y) is e))
+  | inr is ↦ contains_later y f.part (map (λ field. field.part) fs) (part_in fs name y
+      (subst (λ b. option_map (λ x. x.part) (cond b (Some f) (find (λ x. x.name == name) fs)) ≡ Some y) is e))
 ]
 
 module _ (forms : List Form) (declared : AreDeclared forms) where
@@ -54,19 +60,24 @@ module _ (forms : List Form) (declared : AreDeclared forms) where
   there : (m : ℕ) → m < length forms → Contains pairs (m, m)
   there m l = apart_old forms (same_pairs (length forms)) m m (in_same (length forms) m l)
 
-  same_supported : (a : ℕ) (form : Form) → a < length forms → slice_get forms a ≡ Some form → IsSupportedPair forms pairs a a
+  same_supported : (a : ℕ) (form : Form) → a < length forms
+      → slice_get forms a ≡ Some form → IsSupportedPair forms pairs a a
   same_supported a (Base w) l e = SameWord w e e
   same_supported a Top l e = TopRight e
   same_supported a Bottom l e = BottomLeft e
-  same_supported a (Function x y) l e = Functions x y x y e e (there x (declared a (Function x y) e x (0, omega arith, refl))) (there y (declared a (Function x y) e y (1, omega arith, refl)))
+  same_supported a (Function x y) l e =
+      Functions x y x y e e (there x (declared a (Function x y) e x (0, omega arith, refl)))
+      (there y (declared a (Function x y) e y (1, omega arith, refl)))
   same_supported a (Record v) l e =
       let is : IsRecord (slice_get forms a) v.items = subst (λ o. IsRecord o v.items) (sym e) refl in
       Records v.items v.items is is (λ name y k. (y, k, there y (declared a (Record v) e y (part_in v.items name y k))))
   same_supported a (Union v) l e =
       EachLeft v.items (subst (λ o. IsUnion o v.items) (sym e) refl)
-      (λ x k. apart_new forms (same_pairs (length forms)) a a x (in_same (length forms) a l) (subst (λ o. Contains (alternatives_in o) x) (sym e) k))
+      (λ x k. apart_new forms (same_pairs (length forms)) a a x (in_same (length forms) a l)
+      (subst (λ o. Contains (alternatives_in o) x) (sym e) k))
 
-  alternative_declared : (s x : ℕ) (o : Option Form) → slice_get forms s ≡ o → Contains (alternatives_in o) x → x < length forms
+  alternative_declared : (s x : ℕ) (o : Option Form) → slice_get forms s ≡ o
+      → Contains (alternatives_in o) x → x < length forms
   alternative_declared s x (Some (Union v)) e h = declared s (Union v) e x h
   alternative_declared s x (Some (Base w)) e h = absurd (omega (arith, h.1))
   alternative_declared s x (Some Top) e h = absurd (omega (arith, h.1))
@@ -77,7 +88,8 @@ module _ (forms : List Form) (declared : AreDeclared forms) where
 
   part_supported : (s x : ℕ) → Contains (alternatives_in (slice_get forms s)) x → IsSupportedPair forms pairs x s
   part_supported s x h =
-      SomeRight (alternatives_in (slice_get forms s)) (has_union (slice_get forms s) x h) x h (there x (alternative_declared s x (slice_get forms s) refl h))
+      SomeRight (alternatives_in (slice_get forms s)) (has_union (slice_get forms s) x h) x h
+      (there x (alternative_declared s x (slice_get forms s) refl h))
 
   is_simulation : IsSimulation forms pairs
   is_simulation l r h = elim (apart_of forms (same_pairs (length forms)) l r h) [

@@ -5,9 +5,12 @@ use Rattle.type_order.specs.Subtypes.{Form, IsUnion}
 
 -- each part of each type is declared
 abbrev pub AreDeclared : List Form → Type 0
-AreDeclared forms = (n : ℕ) (form : Form) → slice_get forms n ≡ Some form → (part : ℕ) → Contains (parts_of form) part → part < length forms
+AreDeclared forms = (n : ℕ) (form : Form) → slice_get forms n ≡ Some form → (part : ℕ)
+    → Contains (parts_of form) part → part < length forms
 
--- No type is a union of itself through unions alone: types have ranks, and each alternative has a lesser one than its union.
+-- No type is a union of itself through unions alone: types have ranks, and each alternative has a
+-- lesser one than its union.
 pub record IsContractive (forms : List Form) : Type 0 where
   pub rank : ℕ → ℕ
-  pub falls : (n : ℕ) (alternatives : List ℕ) → IsUnion (slice_get forms n) alternatives → (x : ℕ) → Contains alternatives x → rank x < rank n
+  pub falls : (n : ℕ) (alternatives : List ℕ) → IsUnion (slice_get forms n) alternatives → (x : ℕ)
+      → Contains alternatives x → rank x < rank n

@@ -1,12 +1,14 @@
 -- The rule of a pair of types, as a list of questions.
-use Rattle.std.specs.Prelude.{◌≡◌, ℕ, ◌+◌, ◌==◌, if◌then◌else◌, List, [], ◌∷◌, map, length, sum_by, slice_get, Option, Some, None}
+use Rattle.std.specs.Prelude.{◌≡◌, ℕ, ◌+◌, ◌==◌, if◌then◌else◌, List, [], ◌∷◌, map, length, sum_by, slice_get, Option}
+use Rattle.std.specs.Prelude.{Some, None}
 use Rattle.std.specs.Option.{unwrap_or}
 use Rattle.type_order.specs.Below.{Coinductive, Question, Needs, All, Any}
 use Rattle.type_order.specs.Fields.{Field, has_all, part_of}
 use Rattle.type_order.specs.Subtypes.{Base, Bottom, Form, Function, Record, Top, Union}
 use Rattle.type_order.specs.declared.delegate.Pair.{Pair}
 pub use Rattle.type_order.specs.declared.delegate.Case.{Case}
-pub use Rattle.type_order.specs.declared.delegate.Case.TheVariants.{BetweenFunctions, BetweenRecords, Fails, Holds, SplitsLeft, SplitsRight}
+pub use Rattle.type_order.specs.declared.delegate.Case.TheVariants.{BetweenFunctions, BetweenRecords, Fails, Holds}
+pub use Rattle.type_order.specs.declared.delegate.Case.TheVariants.{SplitsLeft, SplitsRight}
 
 -- how a pair is decided
 abbrev pub case_between : Option Form → Option Form → Case

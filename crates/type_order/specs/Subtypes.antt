@@ -20,22 +20,26 @@ IsUnion (Some (Union own)) alternatives = own.items ≡ alternatives
 IsUnion _ alternatives = ⊥
 
 module _ (forms : List Form) where
-  -- What supports that one type is below another, by the pairs of a list: any one of these. For two unions that is to take either of
-  -- them apart, in whichever order, so nothing is lost to a fixed one.
+  -- What supports that one type is below another, by the pairs of a list: any one of these. For two unions that is to
+  -- take either of them apart, in whichever order, so nothing is lost to a fixed one.
   pub data IsSupportedPair (pairs : List (ℕ × ℕ)) (l r : ℕ) : Type 0 where
     BottomLeft : slice_get forms l ≡ Some Bottom → IsSupportedPair pairs l r
     TopRight : slice_get forms r ≡ Some Top → IsSupportedPair pairs l r
-    SameWord : (word : ℕ) → slice_get forms l ≡ Some (Base word) → slice_get forms r ≡ Some (Base word) → IsSupportedPair pairs l r
+    SameWord : (word : ℕ) → slice_get forms l ≡ Some (Base word)
+        → slice_get forms r ≡ Some (Base word) → IsSupportedPair pairs l r
     -- arguments the other way round
     Functions : (a b c d : ℕ) → slice_get forms l ≡ Some (Function a b) → slice_get forms r ≡ Some (Function c d) →
         Contains pairs (c, a) → Contains pairs (b, d) → IsSupportedPair pairs l r
     -- each field of the right one is in the left one, too
     Records : (ls rs : List Field) → IsRecord (slice_get forms l) ls → IsRecord (slice_get forms r) rs →
-        ((name y : ℕ) → part_of rs name ≡ Some y → (x : ℕ) × (part_of ls name ≡ Some x) × Contains pairs (x, y)) → IsSupportedPair pairs l r
+        ((name y : ℕ) → part_of rs name ≡ Some y → (x : ℕ) × (part_of ls name ≡ Some x) × Contains pairs (x, y)) →
+        IsSupportedPair pairs l r
     -- each alternative of the left one
-    EachLeft : (alternatives : List ℕ) → IsUnion (slice_get forms l) alternatives → ((x : ℕ) → Contains alternatives x → Contains pairs (x, r)) → IsSupportedPair pairs l r
+    EachLeft : (alternatives : List ℕ) → IsUnion (slice_get forms l) alternatives
+        → ((x : ℕ) → Contains alternatives x → Contains pairs (x, r)) → IsSupportedPair pairs l r
     -- some alternative of the right one
-    SomeRight : (alternatives : List ℕ) → IsUnion (slice_get forms r) alternatives → (y : ℕ) → Contains alternatives y → Contains pairs (l, y) → IsSupportedPair pairs l r
+    SomeRight : (alternatives : List ℕ) → IsUnion (slice_get forms r) alternatives → (y : ℕ) → Contains alternatives y
+        → Contains pairs (l, y) → IsSupportedPair pairs l r
 
   -- a list of pairs that supports each of its own
   abbrev pub IsSimulation : List (ℕ × ℕ) → Type 0

@@ -56,7 +56,8 @@ abbrev pub Spell : List (List ℕ) → Meaning → Type 0
 Spell words (Base word) = (words ≡ codes "base" ∷ word ∷ []) × IsName word
 Spell words Top = words ≡ codes "top" ∷ []
 Spell words Bottom = words ≡ codes "bottom" ∷ []
-Spell words (Function argument outcome) = (words ≡ argument ∷ codes "->" ∷ outcome ∷ []) × IsName argument × IsName outcome
+Spell words (Function argument outcome) =
+    (words ≡ argument ∷ codes "->" ∷ outcome ∷ []) × IsName argument × IsName outcome
 Spell words (Record fields) = (inside : List (List ℕ)) × (words ≡ codes "{" ∷ inside) × AreFields inside fields
 Spell words (Union names) = AreAlternatives words names
 

@@ -5,7 +5,8 @@ use Rattle.type_texts.specs.declared.line.Line.TheVariants as line
 use Rattle.type_texts.specs.declared.written.Written.{Written}
 use Rattle.type_texts.specs.declared.written.Written.TheVariants as written
 use Rattle.type_texts.specs.declared.written.WrittenField.{WrittenField}
-use Rattle.type_texts.specs.Grammar.{Ask, Base, Bottom, Declare, Function, Meaning, NamedField, Nothing, Record, Statement, Top, Union}
+use Rattle.type_texts.specs.Grammar.{Ask, Base, Bottom, Declare, Function, Meaning, NamedField, Nothing, Record}
+use Rattle.type_texts.specs.Grammar.{Statement, Top, Union}
 
 abbrev pub named : WrittenField → NamedField
 named field = record { name = field.name.now; part = field.part.now }

@@ -36,11 +36,14 @@ module _ (forms : List Form) where
   -- The step leads from a pair to one of its parts. The arguments of functions stand the other way round.
   abbrev pub IsStep : Step → (whole part : Pair) → Type 0
   IsStep step.Alternative whole part =
-      (alternatives : List ℕ) × IsUnion (slice_get forms whole.left) alternatives × Contains alternatives part.left × (part.right ≡ whole.right)
+      (alternatives : List ℕ) × IsUnion (slice_get forms whole.left) alternatives
+      × Contains alternatives part.left × (part.right ≡ whole.right)
   IsStep step.Argument whole part =
-      (b d : ℕ) × (slice_get forms whole.left ≡ Some (Function part.right b)) × (slice_get forms whole.right ≡ Some (Function part.left d))
+      (b d : ℕ) × (slice_get forms whole.left ≡ Some (Function part.right b))
+      × (slice_get forms whole.right ≡ Some (Function part.left d))
   IsStep step.Result whole part =
-      (a c : ℕ) × (slice_get forms whole.left ≡ Some (Function a part.left)) × (slice_get forms whole.right ≡ Some (Function c part.right))
+      (a c : ℕ) × (slice_get forms whole.left ≡ Some (Function a part.left))
+      × (slice_get forms whole.right ≡ Some (Function c part.right))
   IsStep (step.Field name) whole part =
       (ls rs : List Field) × IsRecord (slice_get forms whole.left) ls × IsRecord (slice_get forms whole.right) rs ×
       (part_of ls name ≡ Some part.left) × (part_of rs name ≡ Some part.right)
@@ -54,7 +57,8 @@ module _ (forms : List Form) where
   abbrev pub Fails : End → Pair → Type 0
   Fails Apart pair = AreApart (slice_get forms pair.left) (slice_get forms pair.right)
   Fails NoAlternative pair =
-      (alternatives : List ℕ) × IsUnion (slice_get forms pair.right) alternatives × IsWhole (slice_get forms pair.left) ×
+      (alternatives : List ℕ) × IsUnion (slice_get forms pair.right) alternatives
+      × IsWhole (slice_get forms pair.left) ×
       ((y : ℕ) → Contains alternatives y → IsBelow forms pair.left y → ⊥)
   Fails (Lacks name) pair =
       (ls rs : List Field) × IsRecord (slice_get forms pair.left) ls × IsRecord (slice_get forms pair.right) rs ×
@@ -115,4 +119,5 @@ pub record IsReason (table : TypeTable) (pair : Pair) (text : List ℕ) : Type 0
 
 -- a reason shows that the left type is not below the right one
 abbrev pub ReasonsShowIt : Type 0
-ReasonsShowIt = (table : TypeTable) (pair : Pair) (text : List ℕ) → IsReason table pair text → IsBelow (forms_in table) pair.left pair.right → ⊥
+ReasonsShowIt = (table : TypeTable) (pair : Pair) (text : List ℕ) → IsReason table pair text
+    → IsBelow (forms_in table) pair.left pair.right → ⊥

@@ -1,6 +1,7 @@
 -- Statements of which a table has room for the names that it keeps.
 use Rattle.std.specs.Prelude.{length, ◌≤◌, All}
-use Rattle.type_texts.specs.Grammar.{Ask, Base, Bottom, Declare, Function, Meaning, NamedField, Nothing, Record, Statement, Top, Union}
+use Rattle.type_texts.specs.Grammar.{Ask, Base, Bottom, Declare, Function, Meaning, NamedField, Nothing, Record}
+use Rattle.type_texts.specs.Grammar.{Statement, Top, Union}
 
 abbrev pub HasShortName : NamedField → Type 0
 HasShortName field = length field.name ≤ 16

@@ -7,7 +7,8 @@ use Rattle.type_order.specs.declared.types.Form.TheVariants as types
 use Rattle.type_order.specs.declared.delegate.Pair.{Pair}
 use Rattle.type_order.specs.declared.fields.Field.{Field}
 use Rattle.type_texts.specs.declared.table.TypeTable.{TypeTable}
-use Rattle.type_texts.specs.Grammar.{Ask, Base, Bottom, Declare, Function, Meaning, NamedField, Nothing, Record, Statement, Top, Union}
+use Rattle.type_texts.specs.Grammar.{Ask, Base, Bottom, Declare, Function, Meaning, NamedField, Nothing, Record}
+use Rattle.type_texts.specs.Grammar.{Statement, Top, Union}
 
 -- the names of the types, in the order of their numbers
 abbrev pub names_of : TypeTable → List (List ℕ)
@@ -86,7 +87,8 @@ module _ (names labels : List (List ℕ)) where
 
 -- the new table has the same labels with the same numbers, and maybe more, and is the same in all else
 pub record GrowsLabels (old new : TypeTable) : Type 0 where
-  pub kept : (number : ℕ) (label : List ℕ) → slice_get (labels_of old) number ≡ Some label → slice_get (labels_of new) number ≡ Some label
+  pub kept : (number : ℕ) (label : List ℕ) → slice_get (labels_of old) number ≡ Some label
+      → slice_get (labels_of new) number ≡ Some label
   pub names : names_of new ≡ names_of old
   pub forms : forms_in new ≡ forms_in old
   pub questions : questions_of new ≡ questions_of old
@@ -104,4 +106,5 @@ pub record IsTableOf (statements : List Statement) (table : TypeTable) : Type 0 
 -- the new table has one more statement than the old one, and the same names
 pub record Adds (statement : Statement) (old new : TypeTable) : Type 0 where
   pub names : names_of new ≡ names_of old
-  pub more : (statements : List Statement) → IsTableOf statements old → (all : List Statement) → all ≡ statements ++ statement ∷ [] → IsTableOf all new
+  pub more : (statements : List Statement) → IsTableOf statements old → (all : List Statement)
+      → all ≡ statements ++ statement ∷ [] → IsTableOf all new

@@ -12,8 +12,8 @@ use Rattle.type_texts.specs.Table.{forms_in, HasUndeclared, IsTableOf, name_in, 
 abbrev pub declared_by : List Statement → List (List ℕ)
 declared_by = filter_map name_in
 
--- Each line says a statement, each name is declared once, the statements make the table, each part of a type is declared,
--- and no type is a union of itself through unions alone.
+-- Each line says a statement, each name is declared once, the statements make the table, each part of a type is
+-- declared, and no type is a union of itself through unions alone.
 pub record Reads (text : List ℕ) (types : TypeTable) : Type 0 where
   pub statements : List Statement
   pub lines : AllZip Says (lines_of text) statements
@@ -53,11 +53,13 @@ pub record NamesUndeclared (names : List (List ℕ)) (statements : List Statemen
 
 -- the statements of the text declare a name a second time on this line
 abbrev pub IsDeclaredTwice : List ℕ → ℕ → Type 0
-IsDeclaredTwice text number = (statements : List Statement) × AllZip Says (lines_of text) statements × DeclaresAgain statements number
+IsDeclaredTwice text number =
+    (statements : List Statement) × AllZip Says (lines_of text) statements × DeclaresAgain statements number
 
 -- this line names a type that no statement of the text declares
 abbrev pub IsUndeclared : List ℕ → ℕ → Type 0
-IsUndeclared text number = (statements : List Statement) × AllZip Says (lines_of text) statements × NamesUndeclared (declared_by statements) statements number
+IsUndeclared text number = (statements : List Statement) × AllZip Says (lines_of text) statements
+    × NamesUndeclared (declared_by statements) statements number
 
 -- the line declares the type of this number
 pub record DeclaresType (statements : List Statement) (type line : ℕ) : Type 0 where

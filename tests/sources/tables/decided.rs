@@ -1,8 +1,8 @@
 //! The search beside a solver, where a goal has two runs at most.
 //!
 //! A run has how many tables are drawn and of how many goals, whether goals that reach each other ask each other by one kind
-//! (`one_kind`) or by both (`both_kinds`), and whether a script asks all questions of its goal (`all`) or stops early
-//! (`early`). Where both kinds may stand in a cycle, the provisional cache is not used. Each goal of each table is answered as
+//! (`one_kind`) or by both (`both_kinds`), and whether a script asks all questions of its goal (`all`), does so with the
+//! context that `candidate_lists` makes (`lists`), or stops early (`early`). Where both kinds may stand in a cycle, the provisional cache is not used. Each goal of each table is answered as
 //! the solver says, no limit is met, many goals are proved, many are refuted, and some are run twice.
 //!
 //! That is proved for all tables, and the checks at run time make a table slow, so the rows draw some hundreds. Whoever wants
@@ -13,6 +13,7 @@ use crate::chance::Chance;
 use crate::tables::asked::{Way, ask};
 use crate::tables::random_tables::{Kinds, random_goals, text_of};
 use crate::tables::solved::have_proofs;
+use candidate_lists::{AnyOf, CandidatesContext, CandidatesDelegate, ContextOf};
 use delegate_parts::{Builder, Outcome};
 use early_scripts::EarlyDelegate;
 use rule_tables::delegate::Table;
@@ -28,6 +29,8 @@ use std::test::Fail;
 enum Scripts {
     /// All of its goal's.
     AskAll,
+    /// The same, with the context and the delegate of goals with candidates.
+    AskLists,
     /// No more of a candidate after an answer that is not yes, and none after a candidate that holds.
     StopEarly,
 }
@@ -88,6 +91,7 @@ fn draw_of(options: &str) -> Result<Draw, Fail> {
         },
         scripts: match words.next() {
             Some("all") => Scripts::AskAll,
+            Some("lists") => Scripts::AskLists,
             Some("early") => Scripts::StopEarly,
             _ => Err("no scripts")?,
         },
@@ -153,6 +157,10 @@ fn flaw_with<const PROVISIONAL: usize>(
         Scripts::AskAll => flaw_of::<Table<&Rules>, TableDelegate<'_, 2, PROVISIONAL>>(
             alloc, cx, rules, proved, tally,
         ),
+        Scripts::AskLists => flaw_of::<
+            CandidatesContext<Table<&Rules>>,
+            CandidatesDelegate<Table<&Rules>, 2, PROVISIONAL>,
+        >(alloc, ContextOf(AnyOf(cx)), rules, proved, tally),
         Scripts::StopEarly => flaw_of::<Table<&Rules>, EarlyDelegate<&Rules, 2, PROVISIONAL>>(
             alloc, cx, rules, proved, tally,
         ),

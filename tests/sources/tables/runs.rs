@@ -2892,6 +2892,10 @@ drawn ten_goals_with_cycles_of_one_kind_are_decided 100 10 one_kind all
 expect 0
 decided
 
+drawn five_goals_as_lists_of_candidates_are_decided 100 5 one_kind lists
+expect 0
+decided
+
 drawn four_goals_are_decided_without_provisional_entries 100 4 both_kinds all
 expect 0
 decided

@@ -8,7 +8,8 @@ use Rattle.graph_check.proofs.are_runs.Goals as goal
 
 pub returns-then-not-branch-clause-exact : goal.returns-then-not-branch-clause-exact
 returns-then-not-branch-clause-exact g c =
-    let IsRun = λ (n : Node _ _). IsRunOfSort (has_sort (verdicts g.D.Cx.Cx) c.args.sort) (g.D.Delegate.script c.args.cx n.input) n in (
+    let IsRun = λ (n : Node _ _).
+    IsRunOfSort (has_sort (verdicts g.D.Cx.Cx) c.args.sort) (g.D.Delegate.script c.args.cx n.input) n in (
       λ h. absurd (false≢true h),
       λ all. absurd (false≢true (sym c.if-not-branch.true ∙ c.in_ok-is_run.ensures.exact.1
           (subst IsRun (sym c.node-item.is) (all c.loop-node.node-index c.node-item.result c.loop-node-test.true)))),
@@ -16,10 +17,12 @@ returns-then-not-branch-clause-exact g c =
 
 pub loop-node-preserved : goal.loop-node-preserved
 loop-node-preserved g c =
-    let IsRun = λ (n : Node _ _). IsRunOfSort (has_sort (verdicts g.D.Cx.Cx) c.args.sort) (g.D.Delegate.script c.args.cx n.input) n in
+    let IsRun = λ (n : Node _ _).
+    IsRunOfSort (has_sort (verdicts g.D.Cx.Cx) c.args.sort) (g.D.Delegate.script c.args.cx n.input) n in
     let here = subst IsRun c.node-item.is (c.in_ok-is_run.ensures.exact.0 c.if-not-branch.false) in
     record {
-      runs = All-more IsRun c.args.nodes.now c.loop-node.node-index c.node-item.result c.loop-node-test.true c.loop-node.invariant.runs here;
+      runs = All-more IsRun c.args.nodes.now c.loop-node.node-index c.node-item.result
+          c.loop-node-test.true c.loop-node.invariant.runs here;
       frames = omega (arith, c.loop-node.invariant.frames, c.is_run.ensures.frames);
       same_noop = c.is_run.ensures.same_noop ∙ c.loop-node.invariant.same_noop;
     }

@@ -13,7 +13,8 @@ returns-in_err-push-clause-err g c =
     let v = c.in-Some.entries.now in
     let w = c.push.new.self in
     let found : lookup test old ≡ Some v = sym c.in-Some.ensures.value in
-    let unchanged : lists_of (c.get_mut.follows.lender w).entries ≡ lists_of old = ap lists_of (c.get_mut.follows.holds w).0 ∙ lists-set_same test old v w found c.in_err-push.ensures.items in
+    let unchanged : lists_of (c.get_mut.follows.lender w).entries ≡ lists_of old =
+    ap lists_of (c.get_mut.follows.holds w).0 ∙ lists-set_same test old v w found c.in_err-push.ensures.items in
     search (rules, unchanged)
 
 pub returns-in-Some-clause-ok : goal.returns-in-Some-clause-ok
@@ -32,8 +33,10 @@ returns-clause-ok g c =
     let same = g.I.PartialEq.eq in
     let old = c.args.lists.now.entries in
     let w = c.push-2.new.self in
-    let found : lookup (same c.args.input) old ≡ None = sym c.get_mut.ensures.value ∙ ap option_copied_mut c.in_default.is in
+    let found : lookup (same c.args.input) old ≡ None =
+    sym c.get_mut.ensures.value ∙ ap option_copied_mut c.in_default.is in
     let own : c.get_mut.follows.lender-at-none.entries ≡ old = ap (λ m. m.entries) c.get_mut.follows.holds-at-none in
     let updates = rw own at c.in_ok-insert.ensures.updates.0 in
     puts_last same old c.insert.new.self.entries c.args.input c.args.entry [] w
-    (ap (λ o. unwrap_or (option_map (λ u. u.items) o) []) found) (rw c.new-entries.ensures.items at c.in_ok-push-2.ensures.items) updates
+    (ap (λ o. unwrap_or (option_map (λ u. u.items) o) []) found)
+    (rw c.new-entries.ensures.items at c.in_ok-push-2.ensures.items) updates

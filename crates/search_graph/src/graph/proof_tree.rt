@@ -54,22 +54,23 @@ impl<D: Delegate> SearchGraph<D> {
             (max 1 D.FIXPOINT_STEP_LIMIT) (D.width cache.old.cx) root_depth }
 
         // What the call did, move by move, on a graph that it left so. The laws (`search_graph::law`) say what follows.
-        ensures ran { (left : Graph) × HasRun D.Delegate D.Cx.Cx D.Cx.Input.eq D.Cx.Result.eq (record {
-          goal = input;
-          noop = D.noop inspect.old;
-          looks_up = false;
-          before = record {
-            graph = record { root_depth = root_depth; limits_met = false };
-            cache = cache.old;
-            starts = D.starts inspect.old;
-          };
-          result = result;
-          after = record {
-            graph = left;
-            cache = cache.new;
-            starts = D.starts inspect.new;
-          };
-        }) }
+        ensures ran { (left : Graph)
+            × HasRun D.Delegate D.Cx.Cx D.Cx.Input.eq D.Cx.Result.eq (record {
+              goal = input;
+              noop = D.noop inspect.old;
+              looks_up = false;
+              before = record {
+                graph = record { root_depth = root_depth; limits_met = false };
+                cache = cache.old;
+                starts = D.starts inspect.old;
+              };
+              result = result;
+              after = record {
+                graph = left;
+                cache = cache.new;
+                starts = D.starts inspect.new;
+              };
+            }) }
 
         // The context stays, and so do stored results or equal ones, finished nodes, and each node's goal.
         ensures keeps { KeepsAll D.Cx.Input.eq cache.old cache.new }

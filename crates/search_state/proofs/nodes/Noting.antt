@@ -1,5 +1,6 @@
 -- The nodes of stored results stay noted.
-use Rattle.std.proofs.Common.{◌≡◌, zero, suc, ◌<◌, arith, Bool, true, Contains, inl, inr, List, [], ◌∷◌, ◌⊎◌, None, Option, refl, Some, subst, sym, ap, ap₂, ◌∙◌}
+use Rattle.std.proofs.Common.{◌≡◌, zero, suc, ◌<◌, arith, Bool, true, Contains, inl, inr, List, [], ◌∷◌, ◌⊎◌, None}
+use Rattle.std.proofs.Common.{Option, refl, Some, subst, sym, ap, ap₂, ◌∙◌}
 use Rattle.std.specs.Prelude.{Err, length, Ok, OnErr, OnOk, Result, take}
 use Rattle.std.specs.Option.{IfSome, IsSomeAnd}
 use Rattle.std.proofs.Math.Seq.{take-append_seam, take-length}
@@ -18,16 +19,20 @@ only_one : (node n : NodeId) → Contains (node ∷ []) n → Some node ≡ Some
 only_one node n (zero, within, is) = ap Some is
 only_one node n (suc k, within, is) = absurd (omega (arith, within))
 
-pub still_noted : (target : Option NodeId) (nodes : List NodeId) (n : NodeId) → Contains nodes n → Contains (noted target nodes) n
+pub still_noted : (target : Option NodeId) (nodes : List NodeId) (n : NodeId)
+    → Contains nodes n → Contains (noted target nodes) n
 still_noted None nodes n has = has
 still_noted (Some node) nodes n has = Contains-append_left nodes (node ∷ []) n has
 
-pub target_is_noted : (target : Option NodeId) (nodes roots : List NodeId) → ((n : NodeId) → Contains (noted target nodes) n → Contains roots n) → IfSome target (Contains roots)
+pub target_is_noted : (target : Option NodeId) (nodes roots : List NodeId)
+    → ((n : NodeId) → Contains (noted target nodes) n → Contains roots n) → IfSome target (Contains roots)
 target_is_noted None nodes roots among = tt
-target_is_noted (Some node) nodes roots among = among node (Contains-append_right nodes (node ∷ []) node (0, omega arith, refl))
+target_is_noted (Some node) nodes roots among =
+    among node (Contains-append_right nodes (node ∷ []) node (0, omega arith, refl))
 
 -- what is noted was, or is the new one
-pub noted_cases : (target : Option NodeId) (nodes : List NodeId) (n : NodeId) → Contains (noted target nodes) n → (target ≡ Some n) ⊎ Contains nodes n
+pub noted_cases : (target : Option NodeId) (nodes : List NodeId) (n : NodeId) → Contains (noted target nodes) n
+    → (target ≡ Some n) ⊎ Contains nodes n
 noted_cases None nodes n has = inr has
 noted_cases (Some node) nodes n has = elim (Contains-append_cases nodes (node ∷ []) n has) [
   | inl was ↦ inr was
@@ -35,7 +40,10 @@ noted_cases (Some node) nodes n has = elim (Contains-append_cases nodes (node �
 ]
 
 -- what is noted or was there before the call is so with more nodes
-still_rooted : (before after : Drafts) (more : Option NodeId) → after.first ≡ before.first → after.stored.items ≡ noted more before.stored.items → (node : Option NodeId) → IfSome node (λ n. (n.0 < before.first) ⊎ Contains before.stored.items n) → IfSome node (λ n. (n.0 < after.first) ⊎ Contains after.stored.items n)
+still_rooted : (before after : Drafts) (more : Option NodeId) → after.first ≡ before.first
+    → after.stored.items ≡ noted more before.stored.items → (node : Option NodeId)
+    → IfSome node (λ n. (n.0 < before.first) ⊎ Contains before.stored.items n)
+    → IfSome node (λ n. (n.0 < after.first) ⊎ Contains after.stored.items n)
 still_rooted before after more first items None h = tt
 still_rooted before after more first items (Some n) h = elim h [
   | inl lower ↦ inl (omega (arith, lower, first))
@@ -43,23 +51,32 @@ still_rooted before after more first items (Some n) h = elim h [
 ]
 
 -- a result is stored, whose node was noted
-module _ {C I R A T : Type 0} (same : I → I → Bool) (old new : Cache C I R A T) (by_value : (x y : I) → same x y ≡ true → x ≡ y) (input : I) (place : Place) (stored : StoredResult C I R A T) (puts : Puts same old.results new.results input place stored) where
-  noted_put : (before after : Drafts) → after.first ≡ before.first → after.stored.items ≡ noted stored.node before.stored.items → AreNotedNodes same old before → AreNotedNodes same new after
-  noted_put before after first items h = λ goal at s there. elim (put_cases same by_value old.results new.results input place stored puts goal at) [
-    | inl w ↦
-        let both : Some stored ≡ Some s = sym puts.here ∙ (ap₂ (stored_at same new.results) w.0 w.1 ∙ there) in
-        let own : stored ≡ s = cc in
-        subst (λ x. IfSome x.node (λ n. (n.0 < after.first) ⊎ Contains after.stored.items n)) own
-        (if_noted stored.node (target_is_noted stored.node before.stored.items after.stored.items (λ n has. subst (λ l. Contains l n) (sym items) has)))
-    | inr unchanged ↦ still_rooted before after stored.node first items s.node (h goal at s (sym unchanged ∙ there))
-  ]
+module _ {C I R A T : Type 0} (same : I → I → Bool) (old new : Cache C I R A T)
+    (by_value : (x y : I) → same x y ≡ true → x ≡ y) (input : I) (place : Place) (stored : StoredResult C I R A T)
+    (puts : Puts same old.results new.results input place stored) where
+  noted_put : (before after : Drafts) → after.first ≡ before.first
+      → after.stored.items ≡ noted stored.node before.stored.items
+      → AreNotedNodes same old before → AreNotedNodes same new after
+  noted_put before after first items h =
+      λ goal at s there. elim (put_cases same by_value old.results new.results input place stored puts goal at) [
+        | inl w ↦
+            let both : Some stored ≡ Some s = sym puts.here ∙ (ap₂ (stored_at same new.results) w.0 w.1 ∙ there) in
+            let own : stored ≡ s = cc in
+            subst (λ x. IfSome x.node (λ n. (n.0 < after.first) ⊎ Contains after.stored.items n)) own
+            (if_noted stored.node (target_is_noted stored.node before.stored.items after.stored.items
+            (λ n has. subst (λ l. Contains l n) (sym items) has)))
+        | inr unchanged ↦ still_rooted before after stored.node first items s.node (h goal at s (sym unchanged ∙ there))
+      ]
     where
-      if_noted : (node : Option NodeId) → IfSome node (Contains after.stored.items) → IfSome node (λ n. (n.0 < after.first) ⊎ Contains after.stored.items n)
+      if_noted : (node : Option NodeId) → IfSome node (Contains after.stored.items)
+          → IfSome node (λ n. (n.0 < after.first) ⊎ Contains after.stored.items n)
       if_noted None h = tt
       if_noted (Some n) h = inr h
 
 -- nothing is stored, and this node is noted, if there is one
-pub noted_more : {C I R A T : Type 0} (same : I → I → Bool) (cache : Cache C I R A T) (before after : Drafts) → after.first ≡ before.first → (more : Option NodeId) → after.stored.items ≡ noted more before.stored.items → KeepsNoted same cache before cache after
+pub noted_more : {C I R A T : Type 0} (same : I → I → Bool) (cache : Cache C I R A T) (before after : Drafts)
+    → after.first ≡ before.first → (more : Option NodeId) → after.stored.items ≡ noted more before.stored.items
+    → KeepsNoted same cache before cache after
 noted_more same cache before after first more items = record {
   first = first;
   noted_are = λ h goal at s there. still_rooted before after more first items s.node (h goal at s there);
@@ -72,20 +89,33 @@ noted_forgotten (Some n) nodes = take-append_seam nodes (n ∷ [])
 
 -- a result was stored, or was not, and its node was noted
 pub noted_storing :
-    {C I R A T : Type 0} (same : I → I → Bool) (old new : Cache C I R A T) (by_value : (x y : I) → same x y ≡ true → x ≡ y) (input : I) (place : Place) (stored : StoredResult C I R A T)
-    → (before after : Drafts) → after.first ≡ before.first → after.stored.items ≡ noted stored.node before.stored.items → (result : Result (Unit {0}) (Fault I R))
-    → OnOk result (Puts same old.results new.results input place stored) → OnErr result (new ≡ old) → KeepsNoted same old before new after
-noted_storing same old new by_value input place stored before after first items (Ok u) puts err = record { first = first; noted_are = noted_put same old new by_value input place stored puts before after first items }
+    {C I R A T : Type 0} (same : I → I → Bool) (old new : Cache C I R A T)
+    (by_value : (x y : I) → same x y ≡ true → x ≡ y) (input : I) (place : Place) (stored : StoredResult C I R A T)
+    → (before after : Drafts) → after.first ≡ before.first → after.stored.items ≡ noted stored.node before.stored.items
+    → (result : Result (Unit {0}) (Fault I R))
+    → OnOk result (Puts same old.results new.results input place stored) → OnErr result (new ≡ old)
+    → KeepsNoted same old before new after
+noted_storing same old new by_value input place stored before after first items (Ok u) puts err = record {
+  first = first;
+  noted_are = noted_put same old new by_value input place stored puts before after first items;
+}
 noted_storing same old new by_value input place stored before after first items (Err fault) puts err =
-    subst (λ cache. KeepsNoted same old before cache after) (sym err) (noted_more same old before after first stored.node items)
+    subst (λ cache. KeepsNoted same old before cache after) (sym err)
+    (noted_more same old before after first stored.node items)
 
 -- the stored results stay, and the drafts do
-pub noted_same : {C I R A T : Type 0} (same : I → I → Bool) (old new : Cache C I R A T) (before after : Drafts) → after ≡ before → new.results ≡ old.results → KeepsNoted same old before new after
+pub noted_same : {C I R A T : Type 0} (same : I → I → Bool) (old new : Cache C I R A T) (before after : Drafts)
+    → after ≡ before → new.results ≡ old.results → KeepsNoted same old before new after
 noted_same same old new before after is results = record {
   first = ap (λ (d : Drafts). d.first) is;
-  noted_are = λ h goal at s there. subst (λ (d : Drafts). IfSome s.node (λ n. (n.0 < d.first) ⊎ Contains d.stored.items n)) (sym is) (h goal at s (ap (λ r. stored_at same r goal at) (sym results) ∙ there));
+  noted_are =
+      λ h goal at s there. subst (λ (d : Drafts). IfSome s.node (λ n. (n.0 < d.first) ⊎ Contains d.stored.items n))
+      (sym is) (h goal at s (ap (λ r. stored_at same r goal at) (sym results) ∙ there));
 }
 
 -- one move after another
-pub noted_then : {C I R A T : Type 0} (same : I → I → Bool) (old more new : Cache C I R A T) (before drafts after : Drafts) → KeepsNoted same old before more drafts → KeepsNoted same more drafts new after → KeepsNoted same old before new after
-noted_then same old more new before drafts after one two = record { first = two.first ∙ one.first; noted_are = λ h. two.noted_are (one.noted_are h) }
+pub noted_then : {C I R A T : Type 0} (same : I → I → Bool) (old more new : Cache C I R A T)
+    (before drafts after : Drafts) → KeepsNoted same old before more drafts → KeepsNoted same more drafts new after
+    → KeepsNoted same old before new after
+noted_then same old more new before drafts after one two =
+    record { first = two.first ∙ one.first; noted_are = λ h. two.noted_are (one.noted_are h) }

@@ -8,8 +8,10 @@ pub returns-then-not-all_below : goal.returns-then-not-all_below
 returns-then-not-all_below c = (
   λ no. absurd (false≢true no),
   λ inside.
-      let row = row_from_inside c.args.graph.now _ c.successors-item.result c.loop-successors-test.true c.successors-item.is inside in
-      absurd (iff_false c.all_below.ensures c.if-not-all_below.true (subst (All (λ b. b < length c.args.graph.now)) (sym c.deref.ensures.value) row)),
+      let row = row_from_inside c.args.graph.now _ c.successors-item.result
+      c.loop-successors-test.true c.successors-item.is inside in
+      absurd (iff_false c.all_below.ensures c.if-not-all_below.true
+      (subst (All (λ b. b < length c.args.graph.now)) (sym c.deref.ensures.value) row)),
 )
 
 pub loop-successors-preserved : goal.loop-successors-preserved
@@ -20,4 +22,7 @@ loop-successors-preserved c =
     (subst P c.deref.ensures.value (c.all_below.ensures.0 c.if-not-all_below.false)))
 
 pub returns : goal.returns
-returns c = (λ yes. inside_from_rows c.args.graph.now _ c.loop-successors-test.false c.loop-successors.invariant, λ inside. refl)
+returns c = (
+  λ yes. inside_from_rows c.args.graph.now _ c.loop-successors-test.false c.loop-successors.invariant,
+  λ inside. refl,
+)

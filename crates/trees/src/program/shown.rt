@@ -28,12 +28,14 @@ where
     D: Delegate<Cx = X, ProofTreeBuilder = Recorder<Builder, Goal, Outcome>>,
     W: Flush,
     // All questions were worked out in order, and their trees written.
-    ensures told { IfOk result (AreAllShown D.Delegate X.Cx ⟦<Goal as PartialEq>⟧.eq ⟦<Outcome as PartialEq>⟧.eq
+    ensures told { IfOk result
+        (AreAllShown D.Delegate X.Cx ⟦<Goal as PartialEq>⟧.eq ⟦<Outcome as PartialEq>⟧.eq
         cx rules.now (W.contents out.old) (W.contents out.new)) }
     ensures flushed { OnOk result (W.is_flushed out.new) }
 
     // Else a beginning of the trees of those that were worked out.
-    ensures beginning { OnErr result (AreFirstShown D.Delegate X.Cx ⟦<Goal as PartialEq>⟧.eq ⟦<Outcome as PartialEq>⟧.eq
+    ensures beginning { OnErr result
+        (AreFirstShown D.Delegate X.Cx ⟦<Goal as PartialEq>⟧.eq ⟦<Outcome as PartialEq>⟧.eq
         cx rules.now (W.contents out.old) (W.contents out.new)) }
     ensures fault { IfErr result (λ stop. (stop ≡ Stop.InputOrOutput) ⊎ (stop ≡ Stop.Memory)) }
 {
@@ -63,7 +65,8 @@ fn show<X, D>(
 where
     X: Cx<Input = Goal, Result = Outcome>,
     D: Delegate<Cx = X, ProofTreeBuilder = Recorder<Builder, Goal, Outcome>>,
-    ensures shown { IfOk result (λ fine. IsTreeShown D.Delegate X.Cx ⟦<Goal as PartialEq>⟧.eq ⟦<Outcome as PartialEq>⟧.eq
+    ensures shown { IfOk result (λ fine.
+        IsTreeShown D.Delegate X.Cx ⟦<Goal as PartialEq>⟧.eq ⟦<Outcome as PartialEq>⟧.eq
         cx rules.now (depth, goal) fine text.new.items) }
     ensures fault { IfErr result (λ stop. stop ≡ Stop.Memory) }
 {

@@ -1,6 +1,7 @@
--- What walks come to that stop at leaves and at further nodes, as nodes are added and finished, the stack changes, and other nodes become
--- those at which walks stop.
-use Rattle.std.proofs.Common.{◌≡◌, ◌≢◌, ℕ, List, ◌∷◌, ◌++◌, [], length, max, Some, slice_get, slice_set, refl, sym, ◌∙◌, subst, ◌⊎◌, inl, inr}
+-- What walks come to that stop at leaves and at further nodes, as nodes are added and finished, the stack changes, and
+-- other nodes become those at which walks stop.
+use Rattle.std.proofs.Common.{◌≡◌, ◌≢◌, ℕ, List, ◌∷◌, ◌++◌, [], length, max, Some, slice_get, slice_set, refl, sym, ◌∙◌}
+use Rattle.std.proofs.Common.{subst, ◌⊎◌, inl, inr}
 use Rattle.open_graphs.specs.Graph as theory
 use Rattle.open_graphs.specs.Run.{Again, Answered, Anew, Running, Without}
 use Rattle.open_graphs.specs.Stack.{Entry, IsLeaf, path_kind}
@@ -12,21 +13,27 @@ use Rattle.open_graphs.proofs.Walks.{carried, carried_on, then_step}
 use Rattle.two_runs.specs.Leads.{StepOn, WalksTo}
 
 -- a walk that stops at further nodes is one that doesn't
-pub unstopped : (nodes : List theory.Node) (v : theory.Verdict) (stack : List Entry) (Stops : ℕ → Type 0) {a q b : ℕ} → theory.Walk (StepOn nodes v stack Stops) a q b → theory.Walk (theory_use.Step nodes v stack) a q b
-unstopped nodes v stack Stops w = carried (theory_use.Step nodes v stack) (StepOn nodes v stack Stops) (λ b. Unit {0}) (λ b k c h s. s.step) (λ b k c h s. tt) tt w
+pub unstopped : (nodes : List theory.Node) (v : theory.Verdict) (stack : List Entry) (Stops : ℕ → Type 0) {a q b : ℕ}
+    → theory.Walk (StepOn nodes v stack Stops) a q b → theory.Walk (theory_use.Step nodes v stack) a q b
+unstopped nodes v stack Stops w = carried (theory_use.Step nodes v stack) (StepOn nodes v stack Stops) (λ b. Unit {0})
+    (λ b k c h s. s.step) (λ b k c h s. tt) tt w
 
 -- a walk from a node at which walks stop goes nowhere
-pub stops_here : (nodes : List theory.Node) (v : theory.Verdict) (stack : List Entry) (Stops Inner : ℕ → Type 0) (a : ℕ) → IsLeaf stack a ⊎ Stops a → WalksTo nodes v stack Stops Inner a
+pub stops_here : (nodes : List theory.Node) (v : theory.Verdict) (stack : List Entry) (Stops Inner : ℕ → Type 0) (a : ℕ)
+    → IsLeaf stack a ⊎ Stops a → WalksTo nodes v stack Stops Inner a
 stops_here nodes v stack Stops Inner a there b q w = at there w
   where
-    at : {b q : ℕ} → IsLeaf stack a ⊎ Stops a → theory.Walk (StepOn nodes v stack Stops) a q b → IsLeaf stack b ⊎ (Stops b ⊎ (theory.IsFinished nodes v b × Inner b))
+    at : {b q : ℕ} → IsLeaf stack a ⊎ Stops a → theory.Walk (StepOn nodes v stack Stops) a q b
+        → IsLeaf stack b ⊎ (Stops b ⊎ (theory.IsFinished nodes v b × Inner b))
     at (inl leaf) theory.stay = inl leaf
     at (inr stop) theory.stay = inr (inl stop)
     at (inl leaf) (theory.go s w) = absurd (s.step.inner leaf)
     at (inr stop) (theory.go s w) = absurd (s.on stop)
 
 -- what is finished with two verdicts has one
-pub walks_as : (nodes : List theory.Node) (w v : theory.Verdict) (stack : List Entry) (Stops Inner : ℕ → Type 0) (a : ℕ) → IsLeaf stack a ⊎ theory.IsFinished nodes v a → WalksTo nodes w stack Stops Inner a → WalksTo nodes v stack Stops Inner a
+pub walks_as : (nodes : List theory.Node) (w v : theory.Verdict) (stack : List Entry) (Stops Inner : ℕ → Type 0) (a : ℕ)
+    → IsLeaf stack a ⊎ theory.IsFinished nodes v a → WalksTo nodes w stack Stops Inner a
+    → WalksTo nodes v stack Stops Inner a
 walks_as nodes w v stack Stops Inner a (inl leaf) walks = stops_here nodes v stack Stops Inner a (inl leaf)
 walks_as nodes w v stack Stops Inner a (inr f) walks = elim (walks a 0 theory.stay) [
   | inl leaf ↦ stops_here nodes v stack Stops Inner a (inl leaf)
@@ -39,7 +46,10 @@ walks_as nodes w v stack Stops Inner a (inr f) walks = elim (walks a 0 theory.st
   ]
 ]
 
-module _ (nodes after : List theory.Node) (v : theory.Verdict) (grown : theory.Grown nodes after) (stack other : List Entry) (Stops Later Inner Then : ℕ → Type 0) (inner : (b : ℕ) → theory.IsFinished nodes v b → Inner b → Then b) (a : ℕ) (walks : WalksTo nodes v stack Stops Inner a) where
+module _ (nodes after : List theory.Node) (v : theory.Verdict) (grown : theory.Grown nodes after)
+    (stack other : List Entry) (Stops Later Inner Then : ℕ → Type 0)
+    (inner : (b : ℕ) → theory.IsFinished nodes v b → Inner b → Then b) (a : ℕ)
+    (walks : WalksTo nodes v stack Stops Inner a) where
   abbrev Old : ℕ → ℕ → ℕ → Type 0
   Old = StepOn nodes v stack Stops
 
@@ -59,7 +69,13 @@ module _ (nodes after : List theory.Node) (v : theory.Verdict) (grown : theory.G
       | inl leaf ↦ absurd (s.step.inner (leaves b leaf))
       | inr rest ↦ elim rest [
         | inl stop ↦ absurd (s.on (stops b stop))
-        | inr i ↦ record { step = record { edge = edge_before nodes after v b k c grown i.0 s.step.edge; inner = λ l. s.step.inner (leaves b l) }; on = λ t. s.on (stops b t) }
+        | inr i ↦ record {
+          step = record {
+            edge = edge_before nodes after v b k c grown i.0 s.step.edge;
+            inner = λ l. s.step.inner (leaves b l);
+          };
+          on = λ t. s.on (stops b t);
+        }
       ]
     ]
 
@@ -69,8 +85,10 @@ module _ (nodes after : List theory.Node) (v : theory.Verdict) (grown : theory.G
       | inr rest ↦ elim rest [ inl stop ↦ inr (inl (stops b stop)) | inr i ↦ still b i ]
     ]
 
-  -- Walks may go on where they stopped before, if it is known what is reached from there. Where they didn't stop, none stops.
-  module _ (apart : (b : ℕ) → theory.IsFinished nodes v b → Inner b → (IsLeaf stack b → ⊥) × (Stops b → ⊥)) (ends : (b q : ℕ) → theory.Walk New a q b → IsLeaf stack b ⊎ Stops b → WalksTo after v other Later Then b) where
+  -- Walks may go on where they stopped before, if it is known what is reached from there. Where they
+  -- didn't stop, none stops.
+  module _ (apart : (b : ℕ) → theory.IsFinished nodes v b → Inner b → (IsLeaf stack b → ⊥) × (Stops b → ⊥))
+      (ends : (b q : ℕ) → theory.Walk New a q b → IsLeaf stack b ⊎ Stops b → WalksTo after v other Later Then b) where
     on_from : {c p r q b : ℕ} → theory.Walk Old a p c → theory.Walk New a r c → theory.Walk New c q b → Placed b
     on_from {c} {p} {r} past came theory.stay = elim (walks c p past) [
       | inl leaf ↦ ends c r came (inl leaf) c 0 theory.stay
@@ -83,7 +101,10 @@ module _ (nodes after : List theory.Node) (v : theory.Verdict) (grown : theory.G
         | inr i ↦
             let none = apart c i.0 i.1 in
             on_from
-            (then_step Old past (record { step = record { edge = edge_before nodes after v c k d grown i.0 s.step.edge; inner = none.0 }; on = none.1 }))
+            (then_step Old past (record {
+              step = record { edge = edge_before nodes after v c k d grown i.0 s.step.edge; inner = none.0 };
+              on = none.1;
+            }))
             (then_step New came s) w
       ]
     ]
@@ -93,8 +114,11 @@ module _ (nodes after : List theory.Node) (v : theory.Verdict) (grown : theory.G
 
 -- ---- the end of a run
 
-module _ (nodes : List theory.Node) (below : List Entry) (top : Entry) (own : ℕ) (edges : theory.Verdict → List theory.Edge) (heads_before heads : theory_use.Heads) (v : theory.Verdict) (r : Running nodes below top own edges heads_before heads) (Stops Inner : ℕ → Type 0) (here : Inner own)
-    (behind : (i : ℕ) (edge : theory.Edge) → slice_get (edges v) i ≡ Some edge → WalksTo nodes v (below ++ top ∷ []) Stops Inner edge.target) where
+module _ (nodes : List theory.Node) (below : List Entry) (top : Entry) (own : ℕ)
+    (edges : theory.Verdict → List theory.Edge) (heads_before heads : theory_use.Heads) (v : theory.Verdict)
+    (r : Running nodes below top own edges heads_before heads) (Stops Inner : ℕ → Type 0) (here : Inner own)
+    (behind : (i : ℕ) (edge : theory.Edge) → slice_get (edges v) i ≡ Some edge
+    → WalksTo nodes v (below ++ top ∷ []) Stops Inner edge.target) where
   -- a node that is reached from the target of an edge
   record Behind (c : ℕ) : Type 0 where
     place : ℕ
@@ -117,8 +141,10 @@ module _ (nodes : List theory.Node) (below : List Entry) (top : Entry) (own : �
     top_is_own : (c : ℕ) → Behind c → top.node ≡ c → c ≡ own
     top_is_own c h same =
         let it = r.answered v h.place h.edge h.is_at in
-        let w = unstopped nodes v (below ++ top ∷ []) Stops (subst (theory.Walk (StepOn nodes v (below ++ top ∷ []) Stops) h.edge.target h.kind) (sym same) h.walk) in
-        let covered = covered_walk nodes v (below ++ top ∷ []) (path_kind (below ++ top ∷ []) h.edge.kind) h.edge.kind h.edge.target it.answer it.used (length below) top h.kind (get_end below top) w in
+        let w = unstopped nodes v (below ++ top ∷ []) Stops
+        (subst (theory.Walk (StepOn nodes v (below ++ top ∷ []) Stops) h.edge.target h.kind) (sym same) h.walk) in
+        let covered = covered_walk nodes v (below ++ top ∷ []) (path_kind (below ++ top ∷ []) h.edge.kind) h.edge.kind
+        h.edge.target it.answer it.used (length below) top h.kind (get_end below top) w in
         elim covered.accepted [
           | inl again ↦ absurd (anew again)
           | inr first ↦ elim r.which_run [ inl own_run ↦ sym same ∙ own_run.0 | inr other ↦ absurd (other.1 first.0) ]
@@ -139,20 +165,24 @@ module _ (nodes : List theory.Node) (below : List Entry) (top : Entry) (own : �
     placed_then : (c : ℕ) → Reached c → PlacedThen c
     placed_then c (inl same) = at_own c same
     placed_then c (inr h) = elim (behind h.place h.edge h.is_at c h.kind h.walk) [
-      | inl leaf ↦ elim (leaf_cases below top c leaf) [ inl lower ↦ inl lower | inr same ↦ at_own c (top_is_own c h same) ]
+      | inl leaf ↦
+          elim (leaf_cases below top c leaf) [ inl lower ↦ inl lower | inr same ↦ at_own c (top_is_own c h same) ]
       | inr rest ↦ elim rest [ inl stop ↦ inr (inl stop) | inr i ↦ inr (inr ((i.0.0, grown c v i.0.0 i.0.1), i.1)) ]
     ]
 
     from_own : (c k d : ℕ) → c ≡ own → Going c k d → Behind d
     from_own c k d same s =
-        let at : slice_get later own ≡ Some (theory.Finished v s.step.edge.edges) = subst (λ x. slice_get later x ≡ Some (theory.Finished v s.step.edge.edges)) same s.step.edge.finished in
-        let both : Some (theory.Finished v s.step.edge.edges) ≡ Some (theory.Finished v (edges v)) = sym at ∙ own_finished in
+        let at : slice_get later own ≡ Some (theory.Finished v s.step.edge.edges) =
+        subst (λ x. slice_get later x ≡ Some (theory.Finished v s.step.edge.edges)) same s.step.edge.finished in
+        let both : Some (theory.Finished v s.step.edge.edges) ≡ Some (theory.Finished v (edges v)) =
+        sym at ∙ own_finished in
         let one : s.step.edge.edges ≡ edges v = cc in
         record {
           place = s.step.edge.index;
           edge = record { kind = k; target = d };
           kind = 0;
-          is_at = subst (λ es. slice_get es s.step.edge.index ≡ Some (record { kind = k; target = d })) one s.step.edge.edge;
+          is_at = subst (λ es. slice_get es s.step.edge.index ≡ Some (record { kind = k; target = d })) one
+              s.step.edge.edge;
           walk = theory.stay;
         }
 
@@ -170,7 +200,8 @@ module _ (nodes : List theory.Node) (below : List Entry) (top : Entry) (own : �
                 | inl lower ↦ s.step.inner lower
                 | inr same ↦
                     let is_own = top_is_own c h same in
-                    let unfinished : slice_get nodes c ≡ Some theory.Unfinished = subst (λ x. slice_get nodes x ≡ Some theory.Unfinished) (sym is_own) r.unfinished in
+                    let unfinished : slice_get nodes c ≡ Some theory.Unfinished =
+                    subst (λ x. slice_get nodes x ≡ Some theory.Unfinished) (sym is_own) r.unfinished in
                     let closed : slice_get nodes c ≡ Some (theory.Finished v f.0) = f.1 in
                     absurd cc
               ];
@@ -182,7 +213,10 @@ module _ (nodes : List theory.Node) (below : List Entry) (top : Entry) (own : �
     goes_on : (c k d : ℕ) → Reached c → Going c k d → Reached d
     goes_on c k d (inl same) s = inr (from_own c k d same s)
     goes_on c k d (inr h) s = elim (behind h.place h.edge h.is_at c h.kind h.walk) [
-      | inl leaf ↦ elim (leaf_cases below top c leaf) [ inl lower ↦ absurd (s.step.inner lower) | inr same ↦ inr (from_own c k d (top_is_own c h same) s) ]
+      | inl leaf ↦ elim (leaf_cases below top c leaf) [
+        | inl lower ↦ absurd (s.step.inner lower)
+        | inr same ↦ inr (from_own c k d (top_is_own c h same) s)
+      ]
       | inr rest ↦ elim rest [ inl stop ↦ absurd (s.on stop) | inr i ↦ inr (from_behind c k d h s i.0) ]
     ]
 
@@ -191,7 +225,8 @@ module _ (nodes : List theory.Node) (below : List Entry) (top : Entry) (own : �
     walk_placed {c} h (theory.go {k = k} {b = d} s w) = walk_placed (goes_on c k d h s) w
 
   -- what the node of its result leads to
-  pub answered_walks : {after : List theory.Node} {a : ℕ} → v ≢ theory.Neither → Answered nodes top own edges v after a → (top.provisional ≡ Some v → WalksTo nodes v below Stops Inner top.node) → WalksTo after v below Stops Inner a
+  pub answered_walks : {after : List theory.Node} {a : ℕ} → v ≢ theory.Neither → Answered nodes top own edges v after a
+      → (top.provisional ≡ Some v → WalksTo nodes v below Stops Inner top.node) → WalksTo after v below Stops Inner a
   answered_walks definite (Again e) earlier = earlier e
   answered_walks definite (Anew ne) earlier = λ b q w. walk_placed ne (inl refl) w
   answered_walks definite (Without e) earlier = absurd (definite e)

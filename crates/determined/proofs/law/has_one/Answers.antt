@@ -4,7 +4,8 @@ use Rattle.determined.proofs.law.has_one.Goals as goal
 
 pub returns : goal.returns
 returns g c = λ cx goals most decisive closed goal has.
-    has_one (verdicts g.D.Cx.Cx) (g.D.Delegate.script cx) (g.D.Delegate.initial_result cx) (g.D.Cx.Cx.proves cx) (g.D.Cx.Cx.refutes cx) (record {
+    has_one (verdicts g.D.Cx.Cx) (g.D.Delegate.script cx) (g.D.Delegate.initial_result cx)
+    (g.D.Cx.Cx.proves cx) (g.D.Cx.Cx.refutes cx) (record {
       cycles = g.met.D.Delegate.initial_sort cx;
       yes_is_proved = g.met.D.Delegate.yes_is_proved cx;
       no_is_refuted = g.met.D.Delegate.no_is_refuted cx;

@@ -22,4 +22,5 @@ returns-clause-distinct g c =
     let kept : c.join_known.new.goals.items ≡ items = ap (λ goals. goals.items) (c.if-join_known.ensures.not refl) in
     subst (λ goals. IsDistinct same (keys_of goals))
     (sym (c.push_reserved.ensures.items ∙ ap (λ goals. goals ++ (c.args.input, c.args.paths) ∷ []) kept))
-    (distinct-end same g.met.I.Eq.laws items c.args.input c.args.paths (c.if-join_known.ensures.absent refl) c.requires.distinct)
+    (distinct-end same g.met.I.Eq.laws items c.args.input c.args.paths
+    (c.if-join_known.ensures.absent refl) c.requires.distinct)

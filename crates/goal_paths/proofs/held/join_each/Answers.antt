@@ -9,5 +9,7 @@ pub returns-in_default-clause-ok : goal.returns-in_default-clause-ok
 returns-in_default-clause-ok g c = λ input.
     let same = g.I.PartialEq.eq in
     let own = paths_at same (held c.args.goals.now) input in
-    let none : held c.args.more.now ≡ [] = ap held c.in-Some.is ∙ sym c.deref.ensures ∙ no_goals c.deref.result.now (omega (arith, c.len.ensures, c.if-len-gt0.false)) in
-    sym (ap (λ goals. joined_paths own (option_map (after_step c.args.step) (paths_at same goals input))) none ∙ joined-None own)
+    let none : held c.args.more.now ≡ [] = ap held c.in-Some.is ∙ sym c.deref.ensures
+    ∙ no_goals c.deref.result.now (omega (arith, c.len.ensures, c.if-len-gt0.false)) in
+    sym (ap (λ goals. joined_paths own (option_map (after_step c.args.step) (paths_at same goals input))) none
+    ∙ joined-None own)

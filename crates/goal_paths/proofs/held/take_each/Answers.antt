@@ -9,4 +9,6 @@ returns-then-raise-clause-ok g c = λ input.
     let same = g.I.PartialEq.eq in
     ap (λ goals. paths_at same (held goals) input) c.swap.ensures.x_after
     ∙ c.in_ok-join_each.ensures.ok input
-    ∙ joined-taken c.args.step (paths_at same (held c.args.goals.now) input) (paths_at same (held c.args.nested.now) input) (paths_at same (held c.raise.new.goals) input) (c.raise.ensures.raised c.if-raise.true input)
+    ∙ joined-taken c.args.step (paths_at same (held c.args.goals.now) input)
+    (paths_at same (held c.args.nested.now) input) (paths_at same (held c.raise.new.goals) input)
+    (c.raise.ensures.raised c.if-raise.true input)

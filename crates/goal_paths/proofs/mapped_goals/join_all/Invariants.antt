@@ -5,6 +5,7 @@ use Rattle.goal_paths.proofs.mapped_goals.join_all.Given as goal
 
 abbrev pub invariant-loop-input : goal.invariant-loop-input
 invariant-loop-input g l =
-    IsJoining g.I.PartialEq.eq (after_step l.step) (paths_noted l.raises l.initial.goals.entries) (paths_noted l.raises l.goals.entries)
+    IsJoining g.I.PartialEq.eq (after_step l.step) (paths_noted l.raises l.initial.goals.entries)
+    (paths_noted l.raises l.goals.entries)
     l.initial.input-iterator l.input-iterator (spare l.goals)
     × AreNoted g.I.PartialEq.eq l.raises l.goals.entries

@@ -19,7 +19,8 @@ pub bounds-nodes-node-index : goal.bounds-nodes-node-index
 bounds-nodes-node-index g c = c.loop-node-test.true
 
 pub returns-in_err-targets_up_to : goal.returns-in_err-targets_up_to
-returns-in_err-targets_up_to g c = none_ok c.from_residual-in_err-targets_up_to.result _ c.from_residual-in_err-targets_up_to.ensures.0
+returns-in_err-targets_up_to g c =
+    none_ok c.from_residual-in_err-targets_up_to.result _ c.from_residual-in_err-targets_up_to.ensures.0
 
 pub returns-in_err-push : goal.returns-in_err-push
 returns-in_err-push g c = none_ok c.from_residual-in_err-push.result _ c.from_residual-in_err-push.ensures.0
@@ -29,9 +30,11 @@ loop-node-smaller g c = omega (arith, c.loop-node-test.true)
 
 pub loop-node-preserved : goal.loop-node-preserved
 loop-node-preserved g c =
-    steps_more c.args.most c.args.nodes.now c.loop-node.node-index c.node-item.result (record { below = c.loop-node-test.true; is = c.node-item.is })
+    steps_more c.args.most c.args.nodes.now c.loop-node.node-index c.node-item.result
+    (record { below = c.loop-node-test.true; is = c.node-item.is })
     c.loop-node.steps.items c.push.new.self.items c.in_ok-targets_up_to.field-0 c.loop-node.invariant
     (c.in_ok-targets_up_to.ensures ∙ ap (targets_over c.args.most) c.deref.ensures.value) c.in_ok-push.ensures.items
 
 pub returns : goal.returns
-returns g c = c.loop-node.invariant ∙ ap (λ list. steps_over c.args.most (goal_nodes_of list)) (take_all c.loop-node.node-index c.args.nodes.now c.loop-node-test.false)
+returns g c = c.loop-node.invariant ∙ ap (λ list. steps_over c.args.most (goal_nodes_of list))
+    (take_all c.loop-node.node-index c.args.nodes.now c.loop-node-test.false)

@@ -7,13 +7,15 @@ use Rattle.graph_check.proofs.targets.reach_their_goals.Goals as goal
 pub loop-edge-preserved : goal.loop-edge-preserved
 loop-edge-preserved g c =
     let reaches = λ (e : Edge _). HasGoal (goal_nodes_of c.args.nodes.now) e.target e.input in
-    All-more reaches c.args.edges.now c.loop-edge.edge-index c.edge-item.result c.loop-edge-test.true c.loop-edge.invariant
+    All-more reaches c.args.edges.now c.loop-edge.edge-index c.edge-item.result
+    c.loop-edge-test.true c.loop-edge.invariant
     (subst reaches c.edge-item.is (c.has_goal.ensures.0 c.if-not-has_goal.false))
 
 pub returns : goal.returns
 returns g c =
     let reaches = λ (e : Edge _). HasGoal (goal_nodes_of c.args.nodes.now) e.target e.input in (
-      λ _. subst (All reaches) (take_all c.loop-edge.edge-index c.args.edges.now (omega (arith, c.loop-edge-test.false))) c.loop-edge.invariant,
+      λ _. subst (All reaches) (take_all c.loop-edge.edge-index c.args.edges.now
+          (omega (arith, c.loop-edge-test.false))) c.loop-edge.invariant,
       λ _. refl,
     )
 
@@ -33,5 +35,6 @@ pub returns-then-not-has_goal : goal.returns-then-not-has_goal
 returns-then-not-has_goal g c =
     let reaches = λ (e : Edge _). HasGoal (goal_nodes_of c.args.nodes.now) e.target e.input in (
       λ never. cc,
-      λ all. sym c.if-not-has_goal.true ∙ c.has_goal.ensures.1 (subst reaches (sym c.edge-item.is) (all c.loop-edge.edge-index c.edge-item.result c.loop-edge-test.true)),
+      λ all. sym c.if-not-has_goal.true ∙ c.has_goal.ensures.1
+          (subst reaches (sym c.edge-item.is) (all c.loop-edge.edge-index c.edge-item.result c.loop-edge-test.true)),
     )

@@ -9,7 +9,8 @@ use Rattle.graph_data.specs.Page.{AreOfPage, IsPage}
 pub returns-clause-read : goal.returns-clause-read
 returns-clause-read c =
     let same = c.new-source.ensures ∙ c.in_ok-new.ensures.ok ∙ ap tokens c.in-Ok.ensures.cases.0 in
-    subst (λ ts. IfOk c.read_claims.result (λ claims. IsPage ts claims.rules (map plain_claim claims.all.items))) same c.read_claims.ensures.read
+    subst (λ ts. IfOk c.read_claims.result (λ claims. IsPage ts claims.rules (map plain_claim claims.all.items))) same
+    c.read_claims.ensures.read
 
 pub returns-clause-refused : goal.returns-clause-refused
 returns-clause-refused c =

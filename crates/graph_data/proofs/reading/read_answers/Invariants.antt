@@ -7,6 +7,7 @@ use Rattle.graph_data.proofs.reading.read_answers.Given as goal
 -- the claims so far are read
 abbrev pub invariant-loop : goal.invariant-loop
 invariant-loop l = record {
-  spelled : left_in l.fn.source ≡ key (codes "answers") ∷ begin_array ∷ list_tokens (claim_tokens (names_of l.rules)) (map plain_claim l.claims.items) (left_in l.source);
+  spelled : left_in l.fn.source ≡ key (codes "answers") ∷ begin_array
+      ∷ list_tokens (claim_tokens (names_of l.rules)) (map plain_claim l.claims.items) (left_in l.source);
   named : All (IsClaim (names_of l.rules)) (map plain_claim l.claims.items);
 }

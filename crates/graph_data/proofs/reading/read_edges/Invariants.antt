@@ -7,6 +7,7 @@ use Rattle.graph_data.proofs.reading.read_edges.Given as goal
 -- the edges so far are read
 abbrev pub invariant-loop : goal.invariant-loop
 invariant-loop l = record {
-  spelled : left_in l.fn.source ≡ key (codes "edges") ∷ begin_array ∷ list_tokens (edge_tokens (names_of l.rules)) l.edges.items (left_in l.source);
+  spelled : left_in l.fn.source ≡ key (codes "edges") ∷ begin_array
+      ∷ list_tokens (edge_tokens (names_of l.rules)) l.edges.items (left_in l.source);
   named : All (IsEdge (names_of l.rules)) l.edges.items;
 }

@@ -13,12 +13,17 @@ pub loop-preserved : goal.loop-preserved
 loop-preserved c =
     let before = c.loop.invariant in (
       before.0 ++ c.in_ok-line.line.now ∷ [],
-      text_more before.0 c.in_ok-line.line.now _ _ _ before.1 (c.in_ok-extend_from_slice.ensures.items ∙ ap (λ bytes. c.loop.text.items ++ bytes) c.as_bytes.ensures.value) c.in_ok-push.ensures.items,
-      array_more string_tokens (codes "rules") before.0 _ c.in_ok-line.line.now _ _ _ before.2 (sym c.if-is_end_of_array.ensures.0 ∙ c.in_ok-line.ensures.read) refl,
+      text_more before.0 c.in_ok-line.line.now _ _ _ before.1
+          (c.in_ok-extend_from_slice.ensures.items ∙ ap (λ bytes. c.loop.text.items ++ bytes) c.as_bytes.ensures.value)
+          c.in_ok-push.ensures.items,
+      array_more string_tokens (codes "rules") before.0 _ c.in_ok-line.line.now _ _ _ before.2
+          (sym c.if-is_end_of_array.ensures.0 ∙ c.in_ok-line.ensures.read) refl,
     )
 
 pub returns-in_err-line-clause-refused : goal.returns-in_err-line-clause-refused
 returns-in_err-line-clause-refused c =
     stops_before _ _ _ _ (λ all. rw c.if-is_end_of_array.ensures.0
-    (array_left string_tokens line_parts (codes "rules") (λ _. ⊤) c.loop.invariant.0 (left_in c.args.source.now) _ c.loop.invariant.2 c.if-is_end_of_array.ensures.1 (record { value = all.value; is_right = λ k d below. tt; rest = all.rest; are_its = all.are_its })))
+    (array_left string_tokens line_parts (codes "rules") (λ _. ⊤) c.loop.invariant.0 (left_in c.args.source.now) _
+    c.loop.invariant.2 c.if-is_end_of_array.ensures.1
+    (record { value = all.value; is_right = λ k d below. tt; rest = all.rest; are_its = all.are_its })))
     c.from_residual-in_err-line.ensures.1 c.in_err-line.ensures.refused

@@ -9,10 +9,18 @@ use Rattle.graph_data.specs.Data.{IsNode, left_in, node_tokens, plain_node}
 
 pub loop-preserved : goal.loop-preserved
 loop-preserved c = record {
-  spelled = array_more (node_tokens (names_of c.args.rules.now)) (codes "nodes") _ _ _ _ _ _ c.loop.invariant.spelled (sym c.if-is_end_of_array.ensures.0 ∙ c.in_ok-read_node.ensures.spelled) (map_push plain_node c.loop.nodes.items _ _ c.in_ok-push.ensures.items);
-  named = All-more (IsNode (names_of c.args.rules.now)) _ _ _ (map_push plain_node c.loop.nodes.items _ _ c.in_ok-push.ensures.items) c.loop.invariant.named c.in_ok-read_node.ensures.named;
+  spelled = array_more (node_tokens (names_of c.args.rules.now)) (codes "nodes") _ _ _ _ _ _ c.loop.invariant.spelled
+      (sym c.if-is_end_of_array.ensures.0 ∙ c.in_ok-read_node.ensures.spelled)
+      (map_push plain_node c.loop.nodes.items _ _ c.in_ok-push.ensures.items);
+  named = All-more (IsNode (names_of c.args.rules.now)) _ _ _
+      (map_push plain_node c.loop.nodes.items _ _ c.in_ok-push.ensures.items)
+      c.loop.invariant.named c.in_ok-read_node.ensures.named;
 }
 
 pub returns-in_err-read_node-clause-refused : goal.returns-in_err-read_node-clause-refused
 returns-in_err-read_node-clause-refused c =
-    stops_before _ _ _ _ (λ all. rw c.if-is_end_of_array.ensures.0 (array_left (node_tokens (names_of c.args.rules.now)) (node_parts (names_of c.args.rules.now)) (codes "nodes") (IsNode (names_of c.args.rules.now)) (map plain_node c.loop.nodes.items) (left_in c.args.source.now) _ c.loop.invariant.spelled c.if-is_end_of_array.ensures.1 all)) c.from_residual-in_err-read_node.ensures.1 c.in_err-read_node.ensures.refused
+    stops_before _ _ _ _ (λ all. rw c.if-is_end_of_array.ensures.0
+    (array_left (node_tokens (names_of c.args.rules.now)) (node_parts (names_of c.args.rules.now)) (codes "nodes")
+    (IsNode (names_of c.args.rules.now)) (map plain_node c.loop.nodes.items) (left_in c.args.source.now) _
+    c.loop.invariant.spelled c.if-is_end_of_array.ensures.1 all))
+    c.from_residual-in_err-read_node.ensures.1 c.in_err-read_node.ensures.refused

@@ -7,6 +7,7 @@ use Rattle.graph_data.proofs.reading.read_nodes.Given as goal
 -- the nodes so far are read
 abbrev pub invariant-loop : goal.invariant-loop
 invariant-loop l = record {
-  spelled : left_in l.fn.source ≡ key (codes "nodes") ∷ begin_array ∷ list_tokens (node_tokens (names_of l.rules)) (map plain_node l.nodes.items) (left_in l.source);
+  spelled : left_in l.fn.source ≡ key (codes "nodes") ∷ begin_array
+      ∷ list_tokens (node_tokens (names_of l.rules)) (map plain_node l.nodes.items) (left_in l.source);
   named : All (IsNode (names_of l.rules)) (map plain_node l.nodes.items);
 }

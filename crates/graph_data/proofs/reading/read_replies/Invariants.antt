@@ -5,4 +5,5 @@ use Rattle.graph_data.proofs.reading.read_replies.Given as goal
 
 -- the replies so far are read
 abbrev pub invariant-loop : goal.invariant-loop
-invariant-loop l = left_in l.fn.source ≡ key (codes "replies") ∷ begin_array ∷ list_tokens reply_tokens l.replies.items (left_in l.source)
+invariant-loop l = left_in l.fn.source
+    ≡ key (codes "replies") ∷ begin_array ∷ list_tokens reply_tokens l.replies.items (left_in l.source)

@@ -3,5 +3,6 @@ use Rattle.graph_data.proofs.writing.begin_array_at.Goals as goal
 
 pub returns : goal.returns
 returns c =
-    let p0 = puts_token c.args.writer.now c.args.writer.now c.key.new.self _ _ (puts_none c.args.writer.now) c.in_ok-key.ensures.ok c.in_ok-key.ensures.room.0 in
+    let p0 = puts_token c.args.writer.now c.args.writer.now c.key.new.self _ _ (puts_none c.args.writer.now)
+    c.in_ok-key.ensures.ok c.in_ok-key.ensures.room.0 in
     puts_last c.args.writer.now c.key.new.self c.begin_array.new.self _ _ c.begin_array.result p0 c.begin_array.ensures

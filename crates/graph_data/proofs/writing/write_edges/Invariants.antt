@@ -6,4 +6,5 @@ use Rattle.graph_data.specs.Data.{edge_tokens, HaveTexts, list_tokens, PutsToken
 
 -- so many are written
 abbrev pub invariant-loop-edge : goal.invariant-loop-edge
-invariant-loop-edge l = HaveTexts (names_of l.rules) → PutsTokens l.fn.writer l.writer (λ rest. key (codes "edges") ∷ begin_array ∷ list_tokens (edge_tokens (names_of l.rules)) (take l.edge-index l.edges) rest)
+invariant-loop-edge l = HaveTexts (names_of l.rules) → PutsTokens l.fn.writer l.writer (λ rest.
+    key (codes "edges") ∷ begin_array ∷ list_tokens (edge_tokens (names_of l.rules)) (take l.edge-index l.edges) rest)

@@ -5,4 +5,5 @@ use Rattle.graph_data.specs.Data.{list_tokens, PutsTokens, reply_tokens}
 
 -- so many are written
 abbrev pub invariant-loop-reply : goal.invariant-loop-reply
-invariant-loop-reply l = PutsTokens l.fn.writer l.writer (λ rest. key (codes "replies") ∷ begin_array ∷ list_tokens reply_tokens (take l.reply-index l.replies) rest)
+invariant-loop-reply l = PutsTokens l.fn.writer l.writer
+    (λ rest. key (codes "replies") ∷ begin_array ∷ list_tokens reply_tokens (take l.reply-index l.replies) rest)

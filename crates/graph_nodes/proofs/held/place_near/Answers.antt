@@ -10,7 +10,9 @@ returns-in-Ok g c =
     let low = c.window_near-low.result.0 in
     let high = c.window_near-low.result.1 in
     found_in_part c.args.held.now c.requires low high c.args.number c.window_near-low.ensures c.in-Ok.behind
-    (found_number (take (high - low) (drop low c.args.held.now)) (part_rises c.args.held.now c.requires low high c.args.number c.window_near-low.ensures) c.args.number c.in-Ok.behind c.in-Ok.ensures.bound by_key)
+    (found_number (take (high - low) (drop low c.args.held.now))
+    (part_rises c.args.held.now c.requires low high c.args.number c.window_near-low.ensures) c.args.number
+    c.in-Ok.behind c.in-Ok.ensures.bound by_key)
 
 pub returns-in-Err : goal.returns-in-Err
 returns-in-Err g c =
@@ -18,4 +20,6 @@ returns-in-Err g c =
     let low = c.window_near-low.result.0 in
     let high = c.window_near-low.result.1 in
     missing_in_part c.args.held.now c.requires low high c.args.number c.window_near-low.ensures
-    (gap_none (take (high - low) (drop low c.args.held.now)) (part_rises c.args.held.now c.requires low high c.args.number c.window_near-low.ensures) c.args.number c.in-Err.field-0 c.in-Err.ensures.bound by_key)
+    (gap_none (take (high - low) (drop low c.args.held.now))
+    (part_rises c.args.held.now c.requires low high c.args.number c.window_near-low.ensures) c.args.number
+    c.in-Err.field-0 c.in-Err.ensures.bound by_key)

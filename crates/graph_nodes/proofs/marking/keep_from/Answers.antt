@@ -9,7 +9,8 @@ returns g c =
     let within = c.keep_marked-count.ensures.within in
     let auto = c.keep_marked-count.auto.items in
     c.truncate.ensures.items
-    ∙ cut_is c.args.items.now.items c.deref_mut.result.now c.args.place c.keep_marked-count.result c.args.items.now.len c.keep_marked-count.new.items _ _ (kept c.args.marked.now (drop c.args.place c.args.items.now.items))
+    ∙ cut_is c.args.items.now.items c.deref_mut.result.now c.args.place c.keep_marked-count.result c.args.items.now.len
+    c.keep_marked-count.new.items _ _ (kept c.args.marked.now (drop c.args.place c.args.items.now.items))
     c.deref_mut.ensures.value c.requires.within (omega arith)
     (c.keep_marked-count.ensures.count ∙ ap (λ l. length (kept c.args.marked.now l)) part)
     (omega (arith, within, auto))

@@ -12,5 +12,7 @@ loop-place-preserved c =
     let at = c.loop-place.place in
     let more = all_zipped_more fails (take at rules) c.loop-place.named.items c.in-Some.candidate c.failing.result
     c.loop-place.invariant c.failing.ensures in
-    subst (λ first. AllZip fails first c.push.new.self.items) (sym (take_one_more rules at c.in-Some.candidate c.in-Some.ensures.value))
-    (subst (λ named. AllZip fails (take at rules ++ c.in-Some.candidate ∷ []) named) (sym c.in_ok-push.ensures.items) more)
+    subst (λ first. AllZip fails first c.push.new.self.items)
+    (sym (take_one_more rules at c.in-Some.candidate c.in-Some.ensures.value))
+    (subst (λ named. AllZip fails (take at rules ++ c.in-Some.candidate ∷ []) named)
+    (sym c.in_ok-push.ensures.items) more)

@@ -7,7 +7,8 @@ use Rattle.graph_texts.proofs.Grounds.{take_one_more}
 use Rattle.graph_texts.specs.Below.{Candidate}
 use Rattle.graph_texts.specs.Grounds.{Holds}
 use Rattle.graph_texts.proofs.rule.first_holding.Goals as goal
-use Rattle.graph_texts.proofs.rule.first_holding.Goals.{else-is_marked-via-then-is_marked+else-hold, else-is_marked-via-else-is_marked}
+use Rattle.graph_texts.proofs.rule.first_holding.Goals.{else-is_marked-via-then-is_marked+else-hold}
+use Rattle.graph_texts.proofs.rule.first_holding.Goals.{else-is_marked-via-else-is_marked}
 
 -- what is equal is not told apart
 told_apart : (a b : Bool) → a ≡ b → beq a b ≡ false → ⊥
@@ -22,8 +23,10 @@ loop-place-preserved c =
     let rules = c.args.candidates.now in
     let at = c.loop-place.place in
     let here : other c.in-Some.candidate = elim c.else-is_marked.branch [
-      | else-is_marked-via-then-is_marked+else-hold w ↦ λ holds marked. false≢true (sym w.if-hold.false ∙ w.hold.ensures.1 holds)
-      | else-is_marked-via-else-is_marked w ↦ λ holds marked. told_apart _ _ (c.is_marked.ensures ∙ marked) w.if-is_marked.false
+      | else-is_marked-via-then-is_marked+else-hold w ↦
+          λ holds marked. false≢true (sym w.if-hold.false ∙ w.hold.ensures.1 holds)
+      | else-is_marked-via-else-is_marked w ↦
+          λ holds marked. told_apart _ _ (c.is_marked.ensures ∙ marked) w.if-is_marked.false
     ] in
     subst (All other) (sym (take_one_more rules at c.in-Some.candidate c.in-Some.ensures.value))
     (All-push other _ c.in-Some.candidate c.loop-place.invariant here)

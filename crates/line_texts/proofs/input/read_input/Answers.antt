@@ -9,4 +9,5 @@ returns-then-count-eq0 g c =
     all_consumed _ _ _ _ c.loop.invariant (rw c.if-count-eq0.true at read.0) (read.1 c.if-count-eq0.true room)
 
 pub loop-preserved : goal.loop-preserved
-loop-preserved g c = let appended = c.in_ok-extend_from_slice.ensures.items in rw appended (consumes_more _ _ _ _ _ c.loop.invariant c.in_ok-count.ensures.bytes.0)
+loop-preserved g c = let appended = c.in_ok-extend_from_slice.ensures.items in
+    rw appended (consumes_more _ _ _ _ _ c.loop.invariant c.in_ok-count.ensures.bytes.0)

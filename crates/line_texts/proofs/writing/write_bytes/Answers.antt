@@ -13,6 +13,7 @@ loop-preserved g c =
       | in-Ok w ↦
           let more = rw (to_end all written) at w.in-Ok.ensures.bytes in
           let bound = rw (to_end all written) at w.in-Ok.ensures.bound in
-          rw (w.written-is, take-add written w.in-Ok.more all) (omega (arith, so_far.0, bound, length-drop written all), Appends-trans _ _ _ _ _ so_far.1 more)
+          rw (w.written-is, take-add written w.in-Ok.more all)
+          (omega (arith, so_far.0, bound, length-drop written all), Appends-trans _ _ _ _ _ so_far.1 more)
       | in-Err+else-ne w ↦ rw w.written-is (so_far.0, Appends-kept _ _ _ _ so_far.1 w.in-Err.ensures.bytes)
     ]

@@ -8,7 +8,10 @@ use Rattle.open_goals.proofs.update.ignore_usages.Given as goal
 abbrev pub invariant-loop-head : goal.invariant-loop-head
 invariant-loop-head g l =
     (l.state ≡ record l.initial.state { heads = l.state.heads; usages = l.state.usages })
-    × (option_map (λ own. less_usages own (at_depth (drop l.head-index l.head-items) l.parent)) l.state.usages ≡ option_map (λ own. less_usages own (at_depth l.head-items l.parent)) l.initial.state.usages)
-    × ((depth : StackDepth) → left_at l.parent depth (at_depth l.state.heads depth) (at_depth (drop l.head-index l.head-items) depth) ≡ left_at l.parent depth (at_depth l.initial.state.heads depth) (at_depth l.head-items depth))
+    × (option_map (λ own. less_usages own (at_depth (drop l.head-index l.head-items) l.parent)) l.state.usages
+    ≡ option_map (λ own. less_usages own (at_depth l.head-items l.parent)) l.initial.state.usages)
+    × ((depth : StackDepth)
+    → left_at l.parent depth (at_depth l.state.heads depth) (at_depth (drop l.head-index l.head-items) depth)
+    ≡ left_at l.parent depth (at_depth l.initial.state.heads depth) (at_depth l.head-items depth))
     × (is_in_cycle l.state ≡ is_in_cycle l.initial.state)
     × CanIgnore l.parent (drop l.head-index l.head-items) l.state

@@ -1,4 +1,5 @@
-use Rattle.open_graphs.proofs.Asked.{one_answer_keeps_sound, cycle_is_answered, done_is_answered, stored_is_answered, final_is_answered}
+use Rattle.open_graphs.proofs.Asked.{one_answer_keeps_sound, cycle_is_answered, done_is_answered}
+use Rattle.open_graphs.proofs.Asked.{stored_is_answered, final_is_answered}
 use Rattle.open_graphs.proofs.state.answer_keeps_sound.Goals as goal
 
 pub returns : goal.returns

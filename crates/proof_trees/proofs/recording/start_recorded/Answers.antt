@@ -24,7 +24,8 @@ pub returns-in_err-run-clause-at_most : goal.returns-in_err-run-clause-at_most
 returns-in_err-run-clause-at_most g c = let same = c.note_start.ensures.keeps.inner in rw same c.start.ensures.at_most
 
 pub returns-in_err-run-clause-same_noop : goal.returns-in_err-run-clause-same_noop
-returns-in_err-run-clause-same_noop g c = ap g.D.Delegate.noop c.note_start.ensures.keeps.inner ∙ c.start.ensures.same_noop
+returns-in_err-run-clause-same_noop g c =
+    ap g.D.Delegate.noop c.note_start.ensures.keeps.inner ∙ c.start.ensures.same_noop
 
 pub returns-in_err-run-clause-recording : goal.returns-in_err-run-clause-recording
 returns-in_err-run-clause-recording g c = c.note_start.ensures.keeps.records
@@ -45,7 +46,8 @@ pub returns-clause-at_most : goal.returns-clause-at_most
 returns-clause-at_most g c = let same = c.note_start.ensures.keeps.inner in rw same c.start.ensures.at_most
 
 pub returns-clause-counted : goal.returns-clause-counted
-returns-clause-counted g c = λ counts. let same = c.note_start.ensures.keeps.inner in rw same (c.in_ok-frame.ensures.counted counts)
+returns-clause-counted g c =
+    λ counts. let same = c.note_start.ensures.keeps.inner in rw same (c.in_ok-frame.ensures.counted counts)
 
 pub returns-clause-same_noop : goal.returns-clause-same_noop
 returns-clause-same_noop g c = ap g.D.Delegate.noop c.note_start.ensures.keeps.inner ∙ c.start.ensures.same_noop

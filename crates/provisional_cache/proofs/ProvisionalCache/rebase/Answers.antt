@@ -15,8 +15,10 @@ rebase_lists-requires-clause-can g c =
 
 pub invariant_of-self : goal.invariant_of-self
 invariant_of-self g c =
-    rebased_or_none c.args.stack.now c.args.done.now g.D.Cx.Input.PartialEq.eq (lists_of c.self.inside.lists.entries) (lists_of c.rebase_lists.new.lists.entries) c.self.invariant
-    (λ input. changed_for (g.D.Delegate.propagated c.args.cx input) (g.D.Delegate.fixpoint_overflow c.args.cx input) c.args.reason)
+    rebased_or_none c.args.stack.now c.args.done.now g.D.Cx.Input.PartialEq.eq (lists_of c.self.inside.lists.entries)
+    (lists_of c.rebase_lists.new.lists.entries) c.self.invariant
+    (λ input. changed_for (g.D.Delegate.propagated c.args.cx input)
+    (g.D.Delegate.fixpoint_overflow c.args.cx input) c.args.reason)
     c.rebase_lists.result c.rebase_lists.ensures.rebased c.rebase_lists.ensures.left c.rebase_lists.ensures.err
 
 -- where no entry is concerned, all stay
@@ -27,5 +29,7 @@ returns-then-not-concerns_lists-clause-ok g c = λ input.
     let lists = lists_of c.self.inside.lists.entries in
     let none : c.concerns_lists.result ≡ false = search (rules, c.if-not-concerns_lists.true) in
     let apart = none_at same (is_concerned depth) lists (sym c.concerns_lists.ensures.concerned ∙ none) input in
-    let change_entry = changed_for (g.D.Delegate.propagated c.args.cx input) (g.D.Delegate.fixpoint_overflow c.args.cx input) c.args.reason in
-    rw (← c.self.view_is) (sym (all_stay c.args.stack.now c.args.done.now change_entry depth c.next_index.ensures (entries_at same lists input) apart))
+    let change_entry = changed_for (g.D.Delegate.propagated c.args.cx input)
+    (g.D.Delegate.fixpoint_overflow c.args.cx input) c.args.reason in
+    rw (← c.self.view_is) (sym (all_stay c.args.stack.now c.args.done.now change_entry depth c.next_index.ensures
+    (entries_at same lists input) apart))

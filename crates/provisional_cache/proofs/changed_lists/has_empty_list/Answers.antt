@@ -16,9 +16,12 @@ pub loop-items-preserved : goal.loop-items-preserved
 loop-items-preserved g c = λ rest.
     c.loop-items.invariant
     (subst (All (λ e. e.1.items ≢ [])) (sym c.in-Some.ensures.steps)
-    (All-cons (λ e. e.1.items ≢ []) (c.in-Some.field-0-0.now, c.in-Some.items.now) c.next.new.self (has_element c.in-Some.items.now c.if-is_empty.ensures) rest))
+    (All-cons (λ e. e.1.items ≢ []) (c.in-Some.field-0-0.now, c.in-Some.items.now) c.next.new.self
+    (has_element c.in-Some.items.now c.if-is_empty.ensures) rest))
 
 pub returns : goal.returns
 returns g c = λ _.
-    subst (All (λ e. e.1.items ≢ [])) (c.into_iter-items-iterator.ensures.into_iter_gives ∙ c.iter-items-items.ensures.rest)
-    (c.loop-items.invariant (subst (All (λ e. e.1.items ≢ [])) (sym c.in-None.ensures.steps.0) (All-nil (λ e. e.1.items ≢ []))))
+    subst (All (λ e. e.1.items ≢ []))
+    (c.into_iter-items-iterator.ensures.into_iter_gives ∙ c.iter-items-items.ensures.rest)
+    (c.loop-items.invariant (subst (All (λ e. e.1.items ≢ []))
+    (sym c.in-None.ensures.steps.0) (All-nil (λ e. e.1.items ≢ []))))

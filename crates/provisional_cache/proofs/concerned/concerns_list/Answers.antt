@@ -15,7 +15,8 @@ bounds-entries-entry-index g c = c.loop-entry-test.true
 
 pub returns-then-concerns_entry : goal.returns-then-concerns_entry
 returns-then-concerns_entry g c =
-    here_passes (is_concerned c.args.depth.0) c.args.entries.now c.loop-entry.entry-index c.entry-item.result c.loop-entry-test.true c.entry-item.is c.loop-entry.invariant
+    here_passes (is_concerned c.args.depth.0) c.args.entries.now c.loop-entry.entry-index c.entry-item.result
+    c.loop-entry-test.true c.entry-item.is c.loop-entry.invariant
     (sym c.concerns_entry.ensures ∙ c.if-concerns_entry.true)
 
 pub loop-entry-smaller : goal.loop-entry-smaller
@@ -23,7 +24,8 @@ loop-entry-smaller g c = omega (arith, c.loop-entry-test.true)
 
 pub loop-entry-preserved : goal.loop-entry-preserved
 loop-entry-preserved g c =
-    later_tell (is_concerned c.args.depth.0) c.args.entries.now c.loop-entry.entry-index c.entry-item.result c.loop-entry-test.true c.entry-item.is c.loop-entry.invariant
+    later_tell (is_concerned c.args.depth.0) c.args.entries.now c.loop-entry.entry-index c.entry-item.result
+    c.loop-entry-test.true c.entry-item.is c.loop-entry.invariant
     (sym c.concerns_entry.ensures ∙ c.if-concerns_entry.false)
 
 pub returns : goal.returns

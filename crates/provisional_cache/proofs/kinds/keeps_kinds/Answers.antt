@@ -12,8 +12,12 @@ returns-then-not-keeps_kinds_from g c =
     let index = c.loop-depth.depth-index in
     let here = get_or items index no_head in
     let rest = drop (index + 1) items in
-    let decided : c.keeps_kinds_from.result ≡ keeps_from_head stack done c.args.to_entry c.args.to_done (here.0, here.1) = rw (c.path_kind-from_head.ensures, c.step_kind_from_parent.ensures) at c.keeps_kinds_from.ensures in
-    first_fails stack done c.args.to_entry c.args.to_done (here.0, here.1) (drop index items) rest (next_entry items index no_head c.loop-depth-test.true) c.keeps_kinds_from.result decided c.if-not-keeps_kinds_from.true
+    let decided : c.keeps_kinds_from.result
+    ≡ keeps_from_head stack done c.args.to_entry c.args.to_done (here.0, here.1) =
+    rw (c.path_kind-from_head.ensures, c.step_kind_from_parent.ensures) at c.keeps_kinds_from.ensures in
+    first_fails stack done c.args.to_entry c.args.to_done (here.0, here.1) (drop index items) rest
+    (next_entry items index no_head c.loop-depth-test.true) c.keeps_kinds_from.result
+    decided c.if-not-keeps_kinds_from.true
     ∙ c.loop-depth.invariant
     ∙ ap (keep_from stack done c.args.to_entry c.args.to_done) c.as_slice-depth-items.ensures.heads
 
@@ -25,12 +29,17 @@ loop-depth-preserved g c =
     let index = c.loop-depth.depth-index in
     let here = get_or items index no_head in
     let rest = drop (index + 1) items in
-    let decided : c.keeps_kinds_from.result ≡ keeps_from_head stack done c.args.to_entry c.args.to_done (here.0, here.1) = rw (c.path_kind-from_head.ensures, c.step_kind_from_parent.ensures) at c.keeps_kinds_from.ensures in
-    first_passes stack done c.args.to_entry c.args.to_done (here.0, here.1) (drop index items) rest (next_entry items index no_head c.loop-depth-test.true) c.keeps_kinds_from.result decided c.if-not-keeps_kinds_from.false
+    let decided : c.keeps_kinds_from.result
+    ≡ keeps_from_head stack done c.args.to_entry c.args.to_done (here.0, here.1) =
+    rw (c.path_kind-from_head.ensures, c.step_kind_from_parent.ensures) at c.keeps_kinds_from.ensures in
+    first_passes stack done c.args.to_entry c.args.to_done (here.0, here.1) (drop index items) rest
+    (next_entry items index no_head c.loop-depth-test.true) c.keeps_kinds_from.result
+    decided c.if-not-keeps_kinds_from.false
     ∙ c.loop-depth.invariant
 
 pub returns : goal.returns
 returns g c =
-    let none = drop_of_length-le c.as_slice-depth-items.result.now {i = c.loop-depth.depth-index} (omega (arith, c.loop-depth-test.false)) in
+    let none = drop_of_length-le c.as_slice-depth-items.result.now {i = c.loop-depth.depth-index}
+    (omega (arith, c.loop-depth-test.false)) in
     let kept = keep_from c.args.stack.now c.args.done.now c.args.to_entry c.args.to_done in
     ap kept (sym none) ∙ c.loop-depth.invariant ∙ ap kept c.as_slice-depth-items.ensures.heads

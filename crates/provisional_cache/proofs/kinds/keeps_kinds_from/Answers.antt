@@ -8,6 +8,8 @@ use Rattle.provisional_cache.proofs.kinds.keeps_kinds_from.Goals as goal
 
 pub returns : goal.returns
 returns c =
-    all_from_yields_List (λ to_head. list_all (λ own. keeps_kind c.args.from_head c.args.to_entry own to_head) (kinds_in c.args.to_done)) _ _ c.all.result c.all.ensures.ran
+    all_from_yields_List
+    (λ to_head. list_all (λ own. keeps_kind c.args.from_head c.args.to_entry own to_head) (kinds_in c.args.to_done)) _ _
+    c.all.result c.all.ensures.ran
     (YieldsList-from_first (λ kind. kind) (λ rest. rest) (kinds_in c.args.to_head) c.iter_paths.ensures)
     (λ kind b next called. search rules)

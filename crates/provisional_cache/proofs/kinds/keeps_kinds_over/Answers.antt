@@ -7,6 +7,7 @@ use Rattle.provisional_cache.proofs.kinds.keeps_kinds_over.Goals as goal
 
 pub returns : goal.returns
 returns c =
-    all_from_yields_List (λ own. keeps_kind c.args.from_head c.args.to_entry own c.args.to_head) _ _ c.all.result c.all.ensures.ran
+    all_from_yields_List (λ own. keeps_kind c.args.from_head c.args.to_entry own c.args.to_head) _ _
+    c.all.result c.all.ensures.ran
     (YieldsList-from_first (λ kind. kind) (λ rest. rest) (kinds_in c.args.to_done) c.iter_paths.ensures)
     (λ kind b next called. search rules)

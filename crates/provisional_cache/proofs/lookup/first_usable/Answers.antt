@@ -17,7 +17,8 @@ bounds-entries-entry-index g c = c.loop-entry-test.true
 
 pub may_be_used-requires-clause-heads : goal.may_be_used-requires-clause-heads
 may_be_used-requires-clause-heads g c =
-    subst (λ e. e.heads ≢ []) (sym c.entry-item.is) (c.requires.heads c.loop-entry.entry-index c.entry-item.result c.loop-entry-test.true)
+    subst (λ e. e.heads ≢ []) (sym c.entry-item.is)
+    (c.requires.heads c.loop-entry.entry-index c.entry-item.result c.loop-entry-test.true)
 
 pub may_be_used-requires-clause-on_stack : goal.may_be_used-requires-clause-on_stack
 may_be_used-requires-clause-on_stack g c =
@@ -26,7 +27,8 @@ may_be_used-requires-clause-on_stack g c =
 
 pub returns-then-may_be_used : goal.returns-then-may_be_used
 returns-then-may_be_used g c =
-    found_here (may_be_used c.args.stack.now c.args.step) c.args.entries.now c.loop-entry.entry-index c.entry-item.result c.loop-entry-test.true c.entry-item.is c.loop-entry.invariant
+    found_here (may_be_used c.args.stack.now c.args.step) c.args.entries.now c.loop-entry.entry-index
+    c.entry-item.result c.loop-entry-test.true c.entry-item.is c.loop-entry.invariant
     c.may_be_used.result c.may_be_used.ensures c.if-may_be_used.true
 
 pub loop-entry-smaller : goal.loop-entry-smaller
@@ -34,7 +36,8 @@ loop-entry-smaller g c = omega (arith, c.loop-entry-test.true)
 
 pub loop-entry-preserved : goal.loop-entry-preserved
 loop-entry-preserved g c =
-    found_later (may_be_used c.args.stack.now c.args.step) c.args.entries.now c.loop-entry.entry-index c.entry-item.result c.loop-entry-test.true c.entry-item.is c.loop-entry.invariant
+    found_later (may_be_used c.args.stack.now c.args.step) c.args.entries.now c.loop-entry.entry-index
+    c.entry-item.result c.loop-entry-test.true c.entry-item.is c.loop-entry.invariant
     c.may_be_used.result c.may_be_used.ensures c.if-may_be_used.false
 
 pub returns : goal.returns

@@ -7,5 +7,6 @@ use Rattle.provisional_cache.proofs.nodes.push_nodes_of_lists.Given as goal
 abbrev pub invariant-loop-entries : goal.invariant-loop-entries
 invariant-loop-entries g l = record {
   kept : (n : NodeId) → Contains l.initial.nodes.items n → Contains l.nodes.items n;
-  pushed : l.nodes.items ++ nodes_in (lists_of l.entries-iterator) ≡ l.initial.nodes.items ++ nodes_in (lists_of l.initial.entries-iterator);
+  pushed : l.nodes.items ++ nodes_in (lists_of l.entries-iterator)
+      ≡ l.initial.nodes.items ++ nodes_in (lists_of l.initial.entries-iterator);
 }

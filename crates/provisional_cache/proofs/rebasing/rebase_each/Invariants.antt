@@ -7,5 +7,6 @@ use Rattle.provisional_cache.proofs.rebasing.rebase_each.Given as goal
 abbrev pub invariant-loop-entry : goal.invariant-loop-entry
 invariant-loop-entry g l =
     let becomes = rebased l.stack l.done (changed_by l.entry_change) in
-    (filter_map left_of (take l.entry-index l.entries) ++ filter_map becomes (drop l.entry-index l.entries) ≡ filter_map becomes l.initial.entries)
+    (filter_map left_of (take l.entry-index l.entries) ++ filter_map becomes (drop l.entry-index l.entries)
+    ≡ filter_map becomes l.initial.entries)
     × All (CanBeRebased (length l.stack)) (drop l.entry-index l.entries)

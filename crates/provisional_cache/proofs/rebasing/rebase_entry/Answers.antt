@@ -6,7 +6,8 @@ use Rattle.provisional_cache.proofs.rebasing.rebase_entry.Goals as goal
 pub returns-then-ne : goal.returns-then-ne
 returns-then-ne g c =
     let head = c.highest_cycle_head.result in
-    is_other c.args.stack.now c.args.done.now (changed_by c.args.entry_change.now) c.args.entry.now head c.highest_cycle_head.ensures.last
+    is_other c.args.stack.now c.args.done.now (changed_by c.args.entry_change.now) c.args.entry.now
+    head c.highest_cycle_head.ensures.last
     (not_at_place c.ne.result head.0.0 c.next_index.result.0 _ c.ne.ensures c.next_index.ensures c.if-ne.true)
 
 pub replace_head-requires-clause-can : goal.replace_head-requires-clause-can
@@ -21,6 +22,8 @@ lead_from_new_head-requires g c = record { there = c.in-Ok.ensures.within }
 pub returns : goal.returns
 returns g c =
     let head = c.highest_cycle_head.result in
-    let at : head.0.0 ≡ length c.args.stack.now = at_place c.ne.result head.0.0 c.next_index.result.0 _ c.ne.ensures c.next_index.ensures c.if-ne.false in
+    let at : head.0.0 ≡ length c.args.stack.now =
+    at_place c.ne.result head.0.0 c.next_index.result.0 _ c.ne.ensures c.next_index.ensures c.if-ne.false in
     c.lead_from_new_head.ensures ∙ c.in-Ok.ensures.becomes
-    ∙ is_by_use c.args.stack.now c.args.done.now (changed_by c.args.entry_change.now) c.args.entry.now head.1 head.0 c.highest_cycle_head.ensures.last at
+    ∙ is_by_use c.args.stack.now c.args.done.now (changed_by c.args.entry_change.now) c.args.entry.now head.1 head.0
+    c.highest_cycle_head.ensures.last at

@@ -4,4 +4,5 @@ use Rattle.provisional_cache.proofs.rebasing.replace_used.Given as goal
 
 -- with the heads that are left these are as many as in the end
 abbrev pub invariant-loop-depth : goal.invariant-loop-depth
-invariant-loop-depth l = with_used (drop l.depth-index l.depth-items) l.to_done l.heads ≡ with_used l.depth-items l.to_done l.initial.heads
+invariant-loop-depth l =
+    with_used (drop l.depth-index l.depth-items) l.to_done l.heads ≡ with_used l.depth-items l.to_done l.initial.heads

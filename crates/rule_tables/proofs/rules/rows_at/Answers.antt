@@ -15,7 +15,9 @@ pub offset_bounds-rows-starts : goal.offset_bounds-rows-starts
 offset_bounds-rows-starts c = omega (arith, c.type_inv.starts c.args.number)
 
 pub slice_bounds-result-count : goal.slice_bounds-result-count
-slice_bounds-result-count c = (ends_within c.args.starts.now c.args.rows.now c.args.number c.in-Some.end.now c.in-Some.ensures.lookup.3.0 c.in-Some.ensures.lookup.1 c.requires.ordered).0
+slice_bounds-result-count c = (ends_within c.args.starts.now c.args.rows.now c.args.number c.in-Some.end.now
+    c.in-Some.ensures.lookup.3.0 c.in-Some.ensures.lookup.1 c.requires.ordered).0
 
 pub returns : goal.returns
-returns c = rows_between_are c.args.starts.now c.args.rows.now c.args.number c.in-Some.end.now c.in-Some.ensures.lookup.3.0 c.in-Some.ensures.lookup.1
+returns c = rows_between_are c.args.starts.now c.args.rows.now c.args.number c.in-Some.end.now
+    c.in-Some.ensures.lookup.3.0 c.in-Some.ensures.lookup.1

@@ -17,4 +17,8 @@ pub returns-clause-kept : goal.returns-clause-kept
 returns-clause-kept g c = c.open_node.ensures.kept
 
 pub returns-clause-fates : goal.returns-clause-fates
-returns-clause-fates g c = ap (λ l. fates_of l) c.in_ok-push.ensures.ok ∙ ap (λ e. record { goal = e.input; depth = e.available_depth.0; fate = c.args.fate } ∷ fates_of c.args.evaluation.now.goals) c.new-entry.ensures
+returns-clause-fates g c = ap (λ l. fates_of l) c.in_ok-push.ensures.ok ∙ ap (λ e. record {
+  goal = e.input;
+  depth = e.available_depth.0;
+  fate = c.args.fate;
+} ∷ fates_of c.args.evaluation.now.goals) c.new-entry.ensures

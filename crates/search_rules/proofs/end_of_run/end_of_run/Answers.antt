@@ -8,12 +8,17 @@ pub returns-in_default-clause-is_end : goal.returns-in_default-clause-is_end
 returns-in_default-clause-is_end g c = Unused c.in_default.is
 
 pub returns-in-Some-stable-clause-is_end : goal.returns-in-Some-stable-clause-is_end
-returns-in-Some-stable-clause-is_end g c = Stable c.in-Some.usages c.in-Some-stable.reason c.in-Some.is c.in-Some-stable.ensures.reason
+returns-in-Some-stable-clause-is_end g c =
+    Stable c.in-Some.usages c.in-Some-stable.reason c.in-Some.is c.in-Some-stable.ensures.reason
 
-pub returns-then-finished_runs-saturating_sub-clause-is_end : goal.returns-then-finished_runs-saturating_sub-clause-is_end
+pub returns-then-finished_runs-saturating_sub-clause-is_end :
+    goal.returns-then-finished_runs-saturating_sub-clause-is_end
 returns-then-finished_runs-saturating_sub-clause-is_end g c =
-    Repeats c.in-Some.usages c.in-Some.is (c.stable_reason-stable.ensures.unstable c.in_default-stable.is) (grind (arith, common_steps))
+    Repeats c.in-Some.usages c.in-Some.is
+    (c.stable_reason-stable.ensures.unstable c.in_default-stable.is) (grind (arith, common_steps))
 
-pub returns-else-finished_runs-saturating_sub-clause-is_end : goal.returns-else-finished_runs-saturating_sub-clause-is_end
+pub returns-else-finished_runs-saturating_sub-clause-is_end :
+    goal.returns-else-finished_runs-saturating_sub-clause-is_end
 returns-else-finished_runs-saturating_sub-clause-is_end g c =
-    Limited c.in-Some.usages c.in-Some.is (c.stable_reason-stable.ensures.unstable c.in_default-stable.is) (grind (arith, common_steps))
+    Limited c.in-Some.usages c.in-Some.is
+    (c.stable_reason-stable.ensures.unstable c.in_default-stable.is) (grind (arith, common_steps))

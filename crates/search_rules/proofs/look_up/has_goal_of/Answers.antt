@@ -18,5 +18,6 @@ returns-then-len-most g c =
 -- the stack is walked
 pub returns : goal.returns
 returns g c =
-    any_from_yields_List (λ e. is_some (paths_at g.X.Input.PartialEq.eq c.args.nested_goals.now e.input)) _ _ c.any-2.result c.any-2.ensures.ran
+    any_from_yields_List (λ e. is_some (paths_at g.X.Input.PartialEq.eq c.args.nested_goals.now e.input)) _
+    _ c.any-2.result c.any-2.ensures.ran
     (YieldsList-from_slice c.args.stack.now c.iter-2.ensures) (λ entry b next called. search rules)

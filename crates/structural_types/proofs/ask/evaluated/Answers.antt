@@ -12,7 +12,8 @@ pub returns-clause-decided : goal.returns-clause-decided
 returns-clause-decided g c goals enough_runs =
     let unmet : c.renew.new.self.limits_met ≡ false = ap (λ graph. graph.limits_met) c.renew.ensures in
     let deep : c.renew.new.self.root_depth ≡ 18446744073709551615 = ap (λ graph. graph.root_depth) c.renew.ensures in
-    let enough = subst (λ depth. TwoRunsAreEnough g.D.Delegate g.D.Cx.Cx g.D.Cx.Input.PartialEq.eq goals c.args.cache.now depth c.args.goal (g.D.Delegate.noop c.args.inspect.now)) (sym deep) enough_runs in
+    let enough = subst (λ depth. TwoRunsAreEnough g.D.Delegate g.D.Cx.Cx g.D.Cx.Input.PartialEq.eq goals
+    c.args.cache.now depth c.args.goal (g.D.Delegate.noop c.args.inspect.now)) (sym deep) enough_runs in
     let done = c.two_runs.ensures _ c.evaluate_goal.ensures.ran goals enough refl unmet in
     record {
       answer = c.evaluate_goal.ensures.decisive enough.needs.decisive enough.definite done.unmet;

@@ -11,4 +11,5 @@ returns-clause-told g c =
 pub returns-clause-beginning : goal.returns-clause-beginning
 returns-clause-beginning g c =
     let reads = subst (λ text. Reads text c.in_ok-rules.rules) c.as_slice.ensures.value c.in_ok-rules.ensures.ok in
-    begun_of_text _ _ _ _ c.in_ok-text.ensures reads _ _ _ (c.answer_questions.ensures.beginning (λ builder. (refl, refl)))
+    begun_of_text _ _ _ _ c.in_ok-text.ensures reads _ _ _
+    (c.answer_questions.ensures.beginning (λ builder. (refl, refl)))

@@ -1,4 +1,5 @@
-use Rattle.rule_tables.proofs.Stops.{bad_by_status, bad_line_by_status, done_by_status, status_in_range, stopped_by_status, told_by_status}
+use Rattle.rule_tables.proofs.Stops.{bad_by_status, bad_line_by_status, done_by_status, status_in_range}
+use Rattle.rule_tables.proofs.Stops.{stopped_by_status, told_by_status}
 use Rattle.table_runs.proofs.program.run_with.Goals as goal
 
 pub returns-clause-status : goal.returns-clause-status

@@ -1,14 +1,17 @@
-use Rattle.rule_tables.proofs.Stops.{bad_by_status, bad_line_by_status, done_by_status, status_in_range, stopped_by_status, told_by_status}
+use Rattle.rule_tables.proofs.Stops.{bad_by_status, bad_line_by_status, done_by_status, status_in_range}
+use Rattle.rule_tables.proofs.Stops.{stopped_by_status, told_by_status}
 use Rattle.trees.proofs.program.run.Goals as goal
 
 pub returns-clause-status : goal.returns-clause-status
 returns-clause-status g c = status_in_range c.show_input-came.result _ c.status_told.ensures
 
 pub returns-clause-told : goal.returns-clause-told
-returns-clause-told g c = told_by_status _ c.show_input-came.result _ c.status_told.ensures c.show_input-came.ensures.told
+returns-clause-told g c =
+    told_by_status _ c.show_input-came.result _ c.status_told.ensures c.show_input-came.ensures.told
 
 pub returns-clause-flushed : goal.returns-clause-flushed
-returns-clause-flushed g c = done_by_status _ c.show_input-came.result _ c.status_told.ensures c.show_input-came.ensures.flushed
+returns-clause-flushed g c =
+    done_by_status _ c.show_input-came.result _ c.status_told.ensures c.show_input-came.ensures.flushed
 
 pub returns-clause-bad_line : goal.returns-clause-bad_line
 returns-clause-bad_line g c =

@@ -10,5 +10,6 @@ pub returns : goal.returns
 returns g c = λ call ran records goals settled.
     let before = call.before.cache in
     settled_stays g.D.Delegate g.D.Cx.Cx g.D.Cx.Input.PartialEq.eq before.cx goals before call.after.cache []
-    (all_free_nothing (verdicts g.D.Cx.Cx) g.D.Cx.Input.PartialEq.eq (g.D.Delegate.script before.cx) before.nodes before.results ran.was_sound.results)
+    (all_free_nothing (verdicts g.D.Cx.Cx) g.D.Cx.Input.PartialEq.eq (g.D.Delegate.script before.cx) before.nodes
+    before.results ran.was_sound.results)
     (run_keeps ran).finished (run_is_recorded ran records) settled

@@ -8,7 +8,8 @@ pub loop-head-preserved : goal.loop-head-preserved
 loop-head-preserved c =
     let items = c.as_slice-head-items.result.now in
     let rising = subst IsRising (sym c.as_slice-head-items.ensures.usages) c.as_slice-head-items.ensures.rising in
-    λ depth. ap (λ sums. merged (at_depth sums depth) (at_depth (drop (c.loop-head.head-index + 1) items) depth)) c.in_ok-add.ensures.ok
+    λ depth. ap (λ sums. merged (at_depth sums depth) (at_depth (drop (c.loop-head.head-index + 1) items) depth))
+    c.in_ok-add.ensures.ok
     ∙ merged-next c.loop-head.sums items c.loop-head.head-index _ rising c.loop-head-test.true depth
     ∙ c.loop-head.invariant depth
 

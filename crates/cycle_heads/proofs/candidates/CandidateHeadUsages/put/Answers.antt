@@ -14,7 +14,8 @@ set-requires c =
 pub invariant_of-self : goal.invariant_of-self
 invariant_of-self c =
     let found = ap (λ usages. place_of usages c.args.head) c.self.view_is ∙ sym c.requires ∙ c.in-Ok.is in
-    subst IsRising (sym (c.set.ensures ∙ set_in_place c.args.head c.args.usages c.self.inside.usages c.in-Ok.index found))
+    subst IsRising
+    (sym (c.set.ensures ∙ set_in_place c.args.head c.args.usages c.self.inside.usages c.in-Ok.index found))
     (rising_kept c.args.head c.args.usages c.self.inside.usages c.self.invariant)
 
 pub returns-in-Ok-clause-ok : goal.returns-in-Ok-clause-ok
@@ -33,14 +34,16 @@ insert-requires c =
 pub invariant_of-self-in-Continue-1 : goal.invariant_of-self-in-Continue-1
 invariant_of-self-in-Continue-1 c =
     let gap = ap (λ usages. place_of usages c.args.head) c.self.view_is ∙ sym c.requires ∙ c.in-Err.is in
-    subst IsRising (sym (c.in_ok-insert-in-Err.ensures.ok ∙ inserted_in_gap c.args.head c.args.usages c.self.inside.usages c.in-Err.index gap))
+    subst IsRising (sym (c.in_ok-insert-in-Err.ensures.ok
+    ∙ inserted_in_gap c.args.head c.args.usages c.self.inside.usages c.in-Err.index gap))
     (rising_kept c.args.head c.args.usages c.self.inside.usages c.self.invariant)
 
 pub returns-in_err-insert-in-Err-clause-known : goal.returns-in_err-insert-in-Err-clause-known
 returns-in_err-insert-in-Err-clause-known c =
     let gap = ap (λ usages. place_of usages c.args.head) c.self.view_is ∙ sym c.requires ∙ c.in-Err.is in
     let absent = gap_value c.args.head c.self.inside.usages c.in-Err.index c.self.invariant gap in
-    λ known. absurd (false≢true (subst IsSome (ap (λ usages. at_depth usages c.args.head) (sym c.self.view_is) ∙ absent) known))
+    λ known.
+    absurd (false≢true (subst IsSome (ap (λ usages. at_depth usages c.args.head) (sym c.self.view_is) ∙ absent) known))
 
 pub returns-in_ok-insert-in-Err-clause-ok : goal.returns-in_ok-insert-in-Err-clause-ok
 returns-in_ok-insert-in-Err-clause-ok c =

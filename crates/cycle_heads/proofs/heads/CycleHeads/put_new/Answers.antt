@@ -13,7 +13,8 @@ pub invariant_of-self-2 : goal.invariant_of-self-2
 invariant_of-self-2 c =
     let new : CycleHead = record { paths_to_head = c.args.paths; usages = c.args.usages } in
     let gap = ap (λ heads. place_of heads c.args.depth) c.self.view_is ∙ c.requires in
-    subst IsRising (sym (c.in_ok-insert.ensures.ok ∙ inserted_in_gap c.args.depth new c.self.inside.heads c.args.index gap))
+    subst IsRising
+    (sym (c.in_ok-insert.ensures.ok ∙ inserted_in_gap c.args.depth new c.self.inside.heads c.args.index gap))
     (rising_kept c.args.depth new c.self.inside.heads c.self.invariant)
 
 pub returns-clause-ok : goal.returns-clause-ok
@@ -23,5 +24,7 @@ returns-clause-ok c =
     let absent = gap_value c.args.depth c.self.inside.heads c.args.index c.self.invariant gap in
     c.in_ok-insert.ensures.ok
     ∙ inserted_in_gap c.args.depth new c.self.inside.heads c.args.index gap
-    ∙ (λ i. insert_entry depth_cmp c.self.inside.heads c.args.depth (joined_head (sym absent i) c.args.paths c.args.usages))
-    ∙ (λ i. insert_entry depth_cmp (c.self.view_is i) c.args.depth (joined_head (at_depth (c.self.view_is i) c.args.depth) c.args.paths c.args.usages))
+    ∙ (λ i. insert_entry depth_cmp c.self.inside.heads c.args.depth
+    (joined_head (sym absent i) c.args.paths c.args.usages))
+    ∙ (λ i. insert_entry depth_cmp (c.self.view_is i) c.args.depth
+    (joined_head (at_depth (c.self.view_is i) c.args.depth) c.args.paths c.args.usages))

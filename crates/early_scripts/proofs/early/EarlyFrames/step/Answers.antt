@@ -8,5 +8,8 @@ returns-clause-falls g c =
     let rules_of = g.T.LendsRules.rules_of in
     let frame = c.args.frame.now in
     let q = c.requires.can in
-    falls_at (candidates_of (rules_of q.cx.lender) q.goal) (candidates_of (rules_of frame.lender) frame.goal) _ frame.state _ q.replies c.args.reply
-    (ap₂ candidates_of q.stood.same_rules q.stood.same_goal) (c.candidates-candidates.ensures ∙ ap (λ x. candidates_of x frame.goal) c.rules.ensures) q.stood.state c.after-frame.ensures q.is_fitting
+    falls_at (candidates_of (rules_of q.cx.lender) q.goal) (candidates_of (rules_of frame.lender) frame.goal) _
+    frame.state _ q.replies c.args.reply
+    (ap₂ candidates_of q.stood.same_rules q.stood.same_goal)
+    (c.candidates-candidates.ensures ∙ ap (λ x. candidates_of x frame.goal) c.rules.ensures)
+    q.stood.state c.after-frame.ensures q.is_fitting

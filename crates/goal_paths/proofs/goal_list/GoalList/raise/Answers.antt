@@ -17,16 +17,21 @@ invariant_of-self g c =
     let same = g.I.PartialEq.eq in
     let new = c.raise_each.new.goals in
     let items = c.self.inside.goals.items in
-    let raised : new ≡ map (λ goal. (goal.0, extended goal.1 c.args.step)) items = c.raise_each.ensures ∙ ap (map (λ goal. (goal.0, extended goal.1 c.args.step))) c.as_mut_slice.ensures.value in
-    subst (λ goals. IsDistinct same (keys_of goals)) (sym (whole c.self.inside.goals.len new (drop (length new) items) (omega (arith, c.as_mut_slice.ensures.len, c.raise_each.auto.goals))))
-    (subst (IsDistinct same) (sym (ap keys_of raised ∙ keys_of-map_values (λ paths. extended paths c.args.step) items)) c.self.invariant)
+    let raised : new ≡ map (λ goal. (goal.0, extended goal.1 c.args.step)) items =
+    c.raise_each.ensures ∙ ap (map (λ goal. (goal.0, extended goal.1 c.args.step))) c.as_mut_slice.ensures.value in
+    subst (λ goals. IsDistinct same (keys_of goals)) (sym (whole c.self.inside.goals.len new (drop (length new) items)
+    (omega (arith, c.as_mut_slice.ensures.len, c.raise_each.auto.goals))))
+    (subst (IsDistinct same) (sym (ap keys_of raised ∙ keys_of-map_values (λ paths. extended paths c.args.step) items))
+    c.self.invariant)
 
 pub returns : goal.returns
 returns g c = λ input.
     let same = g.I.PartialEq.eq in
     let new = c.raise_each.new.goals in
     let items = c.self.inside.goals.items in
-    let raised : new ≡ map (λ goal. (goal.0, extended goal.1 c.args.step)) items = c.raise_each.ensures ∙ ap (map (λ goal. (goal.0, extended goal.1 c.args.step))) c.as_mut_slice.ensures.value in
-    ap (λ goals. paths_at same goals input) (whole c.self.inside.goals.len new (drop (length new) items) (omega (arith, c.as_mut_slice.ensures.len, c.raise_each.auto.goals)) ∙ raised)
+    let raised : new ≡ map (λ goal. (goal.0, extended goal.1 c.args.step)) items =
+    c.raise_each.ensures ∙ ap (map (λ goal. (goal.0, extended goal.1 c.args.step))) c.as_mut_slice.ensures.value in
+    ap (λ goals. paths_at same goals input) (whole c.self.inside.goals.len new (drop (length new) items)
+    (omega (arith, c.as_mut_slice.ensures.len, c.raise_each.auto.goals)) ∙ raised)
     ∙ lookup-map_values (λ paths. extended paths c.args.step) (same input) items
     ∙ ap (λ goals. option_map (λ paths. extended paths c.args.step) (paths_at same goals input)) c.self.view_is

@@ -19,7 +19,8 @@ invariant_of-self-then-eq-3 g c =
     let same = g.I.PartialEq.eq in
     let raises = c.self.inside.raises in (
       c.join_paths.ensures.noted,
-      own-new same g.met.I.Eq.laws (paths_noted raises c.self.inside.noted.entries) (paths_noted raises c.join_paths.new.goals.entries) c.args.input c.args.paths (Some c.args.input)
+      own-new same g.met.I.Eq.laws (paths_noted raises c.self.inside.noted.entries)
+          (paths_noted raises c.join_paths.new.goals.entries) c.args.input c.args.paths (Some c.args.input)
           (is_no_step c.args.paths (sym c.eq-2.ensures ∙ c.if-eq-3.true)) refl c.in_ok-join_paths.ensures.ok,
     )
 
@@ -29,6 +30,7 @@ invariant_of-self-else-eq-3 g c =
     let same = g.I.PartialEq.eq in
     let raises = c.self.inside.raises in (
       c.join_paths.ensures.noted,
-      own-joined same g.met.I.Eq.laws (paths_noted raises c.self.inside.noted.entries) (paths_noted raises c.join_paths.new.goals.entries) c.args.input c.args.paths c.self.inside.own
+      own-joined same g.met.I.Eq.laws (paths_noted raises c.self.inside.noted.entries)
+          (paths_noted raises c.join_paths.new.goals.entries) c.args.input c.args.paths c.self.inside.own
           c.in_ok-join_paths.ensures.ok c.self.invariant.1,
     )

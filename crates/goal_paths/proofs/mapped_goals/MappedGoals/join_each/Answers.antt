@@ -8,6 +8,7 @@ invariant_of-self-2 g c =
     let same = g.I.PartialEq.eq in
     let raises = c.self.inside.raises in (
       c.join_all.ensures.noted,
-      own-each same g.met.I.Eq.laws (after_step c.args.step) (paths_noted raises c.self.inside.noted.entries) c.args.more.now (paths_noted raises c.join_all.new.goals.entries) c.self.inside.own
+      own-each same g.met.I.Eq.laws (after_step c.args.step) (paths_noted raises c.self.inside.noted.entries)
+          c.args.more.now (paths_noted raises c.join_all.new.goals.entries) c.self.inside.own
           c.in_ok-join_all.ensures.ok c.self.invariant.1,
     )

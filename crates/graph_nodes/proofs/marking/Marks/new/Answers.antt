@@ -5,4 +5,5 @@ use Rattle.graph_nodes.proofs.marking.Marks.new.Goals as goal
 
 pub returns : goal.returns
 returns c =
-    subst₂ (AreNone c.args.count) (sym (c.in_ok-from_elem.ensures.items_if_clones_equal (λ y is. search rules))) (sym c.in_ok-with_capacity.ensures.items) (none_of c.args.count)
+    subst₂ (AreNone c.args.count) (sym (c.in_ok-from_elem.ensures.items_if_clones_equal (λ y is. search rules)))
+    (sym c.in_ok-with_capacity.ensures.items) (none_of c.args.count)

@@ -6,4 +6,5 @@ use Rattle.graph_pages.proofs.program.checking.check_claims.Given as goal
 abbrev pub invariant-loop-claim : goal.invariant-loop-claim
 invariant-loop-claim g l =
     let contents = g.W.Write.contents in
-    AreJudged (verdicts g.X.Cx) (g.D.Delegate.script l.cx) l.rules l.yielded l.none_refused (contents l.fn.out) (contents l.out)
+    AreJudged (verdicts g.X.Cx) (g.D.Delegate.script l.cx) l.rules l.yielded l.none_refused
+    (contents l.fn.out) (contents l.out)

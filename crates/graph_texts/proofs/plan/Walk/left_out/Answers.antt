@@ -12,14 +12,22 @@ loop-mark-preserved c =
     let at = c.loop-mark.mark-index in
     let lines = c.args.self.now.lines.items in
     let mark = get_or marks at Unseen in
-    let there = subst (λ ms. slice_get ms at ≡ Some mark) c.deref-mark-items.ensures.value (slice_get-get_or marks at Unseen c.loop-mark-test.true) in
-    let more = left_out_more lines c.args.self.now.marks.items at mark c.requires there ∙ ap (λ b. left_out at lines + (if b then 1 else 0)) (sym c.is_unseen.ensures) in
+    let there = subst (λ ms. slice_get ms at ≡ Some mark) c.deref-mark-items.ensures.value
+    (slice_get-get_or marks at Unseen c.loop-mark-test.true) in
+    let more = left_out_more lines c.args.self.now.marks.items at mark c.requires there
+    ∙ ap (λ b. left_out at lines + (if b then 1 else 0)) (sym c.is_unseen.ensures) in
     let within = c.loop-mark.invariant.within in
     elim c.if-is_unseen.branch [
       | then-is_unseen w ↦
           let one = more ∙ ap (λ b. left_out at lines + (if b then 1 else 0)) w.if-is_unseen.true in
-          record { count = omega (arith, w.left-is, one, c.loop-mark.invariant.count); within = omega (arith, w.left-is, within) }
+          record {
+            count = omega (arith, w.left-is, one, c.loop-mark.invariant.count);
+            within = omega (arith, w.left-is, within);
+          }
       | else-is_unseen w ↦
           let none = more ∙ ap (λ b. left_out at lines + (if b then 1 else 0)) w.if-is_unseen.false in
-          record { count = omega (arith, w.left-is, none, c.loop-mark.invariant.count); within = omega (arith, w.left-is, within) }
+          record {
+            count = omega (arith, w.left-is, none, c.loop-mark.invariant.count);
+            within = omega (arith, w.left-is, within);
+          }
     ]

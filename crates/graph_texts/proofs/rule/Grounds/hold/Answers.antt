@@ -10,7 +10,8 @@ returns-then-not-has c =
     let asked = All (IsAsked c.args.self.now) in
     let at = c.loop-asking.asking-index in (
       λ never. absurd (false≢true never),
-      λ all. sym c.if-not-has.true ∙ c.has.ensures.1 (subst asked (sym c.questions-questions.ensures) all at _ c.loop-asking-test.true),
+      λ all. sym c.if-not-has.true
+          ∙ c.has.ensures.1 (subst asked (sym c.questions-questions.ensures) all at _ c.loop-asking-test.true),
     )
 
 pub loop-asking-preserved : goal.loop-asking-preserved

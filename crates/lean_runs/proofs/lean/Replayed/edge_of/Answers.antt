@@ -15,5 +15,7 @@ returns g c =
     if_some_then c.next_edge.result _ _ c.next_edge.ensures
     (λ further among.
     let found = subst (λ es. Contains es (edge_to c.args.kind c.args.input further)) c.as_slice.ensures.value among in
-    edge_leads _ _ _ _ _ _ _ found.0 (edge_to c.args.kind c.args.input further) _ _ (sym c.in_ok-known.ensures.lent) (c.has_verdict.ensures c.if-not-has_verdict.false) c.in_ok-known.ensures.is_run
-    (slice_get-get_or c.in_ok-known.known.now.edges.items found.0 (edge_to c.args.kind c.args.input further) found.1 ∙ ap Some found.2) refl)
+    edge_leads _ _ _ _ _ _ _ found.0 (edge_to c.args.kind c.args.input further) _ _ (sym c.in_ok-known.ensures.lent)
+    (c.has_verdict.ensures c.if-not-has_verdict.false) c.in_ok-known.ensures.is_run
+    (slice_get-get_or c.in_ok-known.known.now.edges.items found.0 (edge_to c.args.kind c.args.input further) found.1
+    ∙ ap Some found.2) refl)

@@ -9,10 +9,12 @@ returns-in_err-start-clause-steps c =
 
 pub returns-clause-steps : goal.returns-clause-steps
 returns-clause-steps c =
-    words_of-first _ _ _ _ _ _ _ _ c.first_in_word.ensures c.in_ok-start.was c.split_at.ensures.back c.first_space.ensures c.unwrap_or-end.ensures c.split_at-2.ensures.front c.split_at-2.ensures.back
+    words_of-first _ _ _ _ _ _ _ _ c.first_in_word.ensures c.in_ok-start.was c.split_at.ensures.back
+    c.first_space.ensures c.unwrap_or-end.ensures c.split_at-2.ensures.front c.split_at-2.ensures.back
 
 pub returns-clause-goes : goal.returns-clause-goes
 returns-clause-goes c =
-    let e = words_of-first _ _ _ _ _ _ _ _ c.first_in_word.ensures c.in_ok-start.was c.split_at.ensures.back c.first_space.ensures c.unwrap_or-end.ensures c.split_at-2.ensures.front c.split_at-2.ensures.back in
+    let e = words_of-first _ _ _ _ _ _ _ _ c.first_in_word.ensures c.in_ok-start.was c.split_at.ensures.back
+    c.first_space.ensures c.unwrap_or-end.ensures c.split_at-2.ensures.front c.split_at-2.ensures.back in
     let l = ap length e in
     search rules

@@ -4,4 +4,5 @@ use Rattle.open_goals.proofs.Pairs.{length-paired}
 use Rattle.open_goals.proofs.goals.OpenGoals.len.Goals as goal
 
 pub returns : goal.returns
-returns g c = grind (arith, common_steps, length-paired [] c.self.inside.stack c.self.inside.runs.items c.self.invariant)
+returns g c =
+    grind (arith, common_steps, length-paired [] c.self.inside.stack c.self.inside.runs.items c.self.invariant)

@@ -4,4 +4,5 @@ use Rattle.provisional_cache.proofs.rebasing.EntryChange.change_entry.Goals as g
 
 pub returns-in-UnchangedIfSingle-clause-changed : goal.returns-in-UnchangedIfSingle-clause-changed
 returns-in-UnchangedIfSingle-clause-changed g c =
-    rw (c.in-UnchangedIfSingle.is) (left_if_single c.is_single.result _ c.args.entry.now (others_by_test c.args.usages c.in-UnchangedIfSingle.kind c.is_single.result c.is_single.ensures))
+    rw (c.in-UnchangedIfSingle.is) (left_if_single c.is_single.result _ c.args.entry.now
+    (others_by_test c.args.usages c.in-UnchangedIfSingle.kind c.is_single.result c.is_single.ensures))

@@ -8,4 +8,5 @@ pub returns-else-is_written_before-clause-within : goal.returns-else-is_written_
 returns-else-is_written_before-clause-within g c =
     let blocks = blocks_of c.program-program.result.now in
     subst (λ p. length c.predecessors.result.now ≤ most_predecessors (blocks_of p)) c.program-program.ensures
-    (subst (λ xs. length xs ≤ most_predecessors blocks) (sym c.predecessors.ensures) (predecessors_within blocks c.args.point.block))
+    (subst (λ xs. length xs ≤ most_predecessors blocks) (sym c.predecessors.ensures)
+    (predecessors_within blocks c.args.point.block))

@@ -9,6 +9,7 @@ invariant_of-self c =
     let number : c.len-number.result ≡ length c.args.self.now.blocks.items = search rules in
     record {
       go_down = goes_on _ blocks c.push.new.self.items _ c.args.self.now.go_down
-          (subst (λ xs. All (λ p. p < length blocks) xs) c.deref.ensures.value (subst (λ n. All (λ p. p < n) c.deref.result.now) number below))
+          (subst (λ xs. All (λ p. p < length blocks) xs) c.deref.ensures.value
+          (subst (λ n. All (λ p. p < n) c.deref.result.now) number below))
           c.push.ensures.items;
     }

@@ -24,14 +24,22 @@ invariant_of-self c =
     let first : c.len-first.result ≡ length c.goal_named.new.self.askings.items = search rules in
     let within : c.len-first.result + length c.args.questions.now ≤ length mid.askings.items = omega arith in
     let before : c.len-else-len.result ≡ length mid.rules.items = search rules in
-    let known_all = pushed_by (IsKnown (length mid.names)) _ mid.rules.items c.push.new.self.items _ c.push.ensures.items mid.known known in
-    let within_all = pushed_by (EndsWithin (length mid.askings.items)) _ mid.rules.items c.push.new.self.items _ c.push.ensures.items mid.within within in
-    record { countable = mid.countable; few = omega (arith, known_all.1, before, c.if-len-2.false); known = known_all.0; within = within_all.0 }
+    let known_all = pushed_by (IsKnown (length mid.names)) _ mid.rules.items c.push.new.self.items _
+    c.push.ensures.items mid.known known in
+    let within_all = pushed_by (EndsWithin (length mid.askings.items)) _ mid.rules.items c.push.new.self.items _
+    c.push.ensures.items mid.within within in
+    record {
+      countable = mid.countable;
+      few = omega (arith, known_all.1, before, c.if-len-2.false);
+      known = known_all.0;
+      within = within_all.0;
+    }
 
 pub overflow_cast-row-2 : goal.overflow_cast-row-2
 overflow_cast-row-2 c =
     let asked = c.in_ok-ask.ensures in
-    let more = AllZip-long (IsAsked (names_of c.ask.new.self)) asked.more (map named c.args.questions.now) asked.asked in
+    let more =
+    AllZip-long (IsAsked (names_of c.ask.new.self)) asked.more (map named c.args.questions.now) asked.asked in
     let count = length-map c.args.questions.now named in
     let all = ap length asked.askings in
     let parts = length-append c.goal_named.new.self.askings.items asked.more in
@@ -50,10 +58,17 @@ returns c =
     let more = AllZip-long (IsAsked (names_of mid)) asked.more (map named questions) asked.asked in
     let count : length questions ≡ length asked.more = sym (length-map questions named) ∙ more in
     let first : c.len-first.result ≡ length c.goal_named.new.self.askings.items = search rules in
-    let last = asked_last mid.askings.items c.goal_named.new.self.askings.items asked.more c.len-first.result (length questions) asked.askings first count in
+    let last = asked_last mid.askings.items c.goal_named.new.self.askings.items asked.more c.len-first.result
+    (length questions) asked.askings first count in
     let row : Row = record { first = c.len-first.result; count = length questions; is_marked = c.args.is_marked } in
-    adds_rule old mid _ c.args.is_marked c.args.name.now (map named questions) goal (candidate_with mid.askings.items row)
+    adds_rule old mid _ c.args.is_marked c.args.name.now (map named questions) goal
+    (candidate_with mid.askings.items row)
     (subst (λ names. Mentions old mid (c.args.name.now ∷ names)) (sym (map-map (λ q. q.name) named questions)) mentions)
-    is (record { is_marked = refl; questions = subst (λ qs. AreAsked (names_of mid) qs (map named questions)) (sym last) asked.asked }) refl refl
-    (λ g same. candidates_here (λ r. candidate_with mid.askings.items r.row) mid.rules.items c.push.new.self.items (record { goal = goal; row = row }) (number_of g) c.in_ok-push.ensures.items (sym same))
-    (λ g apart. candidates_off (λ r. candidate_with mid.askings.items r.row) mid.rules.items c.push.new.self.items (record { goal = goal; row = row }) (number_of g) c.in_ok-push.ensures.items (λ e. apart (sym e)))
+    is (record {
+      is_marked = refl;
+      questions = subst (λ qs. AreAsked (names_of mid) qs (map named questions)) (sym last) asked.asked;
+    }) refl refl
+    (λ g same. candidates_here (λ r. candidate_with mid.askings.items r.row) mid.rules.items c.push.new.self.items
+    (record { goal = goal; row = row }) (number_of g) c.in_ok-push.ensures.items (sym same))
+    (λ g apart. candidates_off (λ r. candidate_with mid.askings.items r.row) mid.rules.items c.push.new.self.items
+    (record { goal = goal; row = row }) (number_of g) c.in_ok-push.ensures.items (λ e. apart (sym e)))

@@ -18,10 +18,15 @@ returns c = record {
   candidates = λ goal name e.
       let l = slice_get_within c.args.self.names (number_of goal) name e in
       let count = c.count.ensures in
-      let groups = subst (λ rules. AreGroups rules c.count.result c.in_ok-rows.starts.items c.in_ok-rows.rows.items) c.as_slice.ensures.value c.in_ok-rows.ensures in
-      ap (λ askings. candidates_with askings.items (rows_at c.new.result.starts.items c.new.result.rows.items (number_of goal))) c.new.ensures.askings
-      ∙ ap (λ starts. candidates_with c.args.self.askings.items (rows_at starts.items c.new.result.rows.items (number_of goal))) c.new.ensures.starts
-      ∙ ap (λ rows. candidates_with c.args.self.askings.items (rows_at c.in_ok-rows.starts.items rows.items (number_of goal))) c.new.ensures.rows
-      ∙ groups_candidates c.args.self.rules.items c.count.result c.in_ok-rows.starts.items c.in_ok-rows.rows.items c.args.self.askings.items (number_of goal) groups (omega arith);
+      let groups = subst (λ rules. AreGroups rules c.count.result c.in_ok-rows.starts.items c.in_ok-rows.rows.items)
+      c.as_slice.ensures.value c.in_ok-rows.ensures in
+      ap (λ askings. candidates_with askings.items
+      (rows_at c.new.result.starts.items c.new.result.rows.items (number_of goal))) c.new.ensures.askings
+      ∙ ap (λ starts. candidates_with c.args.self.askings.items
+      (rows_at starts.items c.new.result.rows.items (number_of goal))) c.new.ensures.starts
+      ∙ ap (λ rows. candidates_with c.args.self.askings.items
+      (rows_at c.in_ok-rows.starts.items rows.items (number_of goal))) c.new.ensures.rows
+      ∙ groups_candidates c.args.self.rules.items c.count.result c.in_ok-rows.starts.items c.in_ok-rows.rows.items
+      c.args.self.askings.items (number_of goal) groups (omega arith);
   questions = ap (λ all. all.items) c.new.ensures.questions;
 }

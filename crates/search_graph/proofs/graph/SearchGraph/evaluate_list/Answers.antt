@@ -33,15 +33,22 @@ loop-query-preserved g c =
       ran = record {
         more = then.ran.more ++ answer ∷ [];
         graphs = then.ran.graphs ++ now.ran.0 ∷ [];
-        appended = c.push_reserved.ensures.items ∙ (ap (λ items. items ++ answer ∷ []) then.ran.appended ∙ appended c.reserve.new.self.items then.ran.more answer);
+        appended = c.push_reserved.ensures.items ∙ (ap (λ items. items ++ answer ∷ []) then.ran.appended
+            ∙ appended c.reserve.new.self.items then.ran.more answer);
         ran =
-            subst (λ qs. AllRan g.D.Delegate g.D.Cx.Cx same same_result noop c.args.cache.now (g.D.Delegate.starts c.args.inspect.now) qs (then.ran.more ++ answer ∷ []) (then.ran.graphs ++ now.ran.0 ∷ []) new to)
-            (ap (λ q. take at queries ++ q ∷ []) c.query-item.is ∙ sym (take_more queries at query c.loop-query-test.true))
-            (ThenRan (take at queries) then.ran.more then.ran.graphs c.loop-query.cache from query answer now.ran.0 new to then.ran.ran
-            (subst (λ b. HasRun g.D.Delegate g.D.Cx.Cx same same_result (call_for b query c.loop-query.cache from answer now.ran.0 new to)) then.builder.same_noop now.ran.1));
+            subst (λ qs. AllRan g.D.Delegate g.D.Cx.Cx same same_result noop c.args.cache.now
+            (g.D.Delegate.starts c.args.inspect.now) qs (then.ran.more ++ answer ∷ [])
+            (then.ran.graphs ++ now.ran.0 ∷ []) new to)
+            (ap (λ q. take at queries ++ q ∷ []) c.query-item.is
+            ∙ sym (take_more queries at query c.loop-query-test.true))
+            (ThenRan (take at queries) then.ran.more then.ran.graphs c.loop-query.cache from query
+            answer now.ran.0 new to then.ran.ran
+            (subst (λ b. HasRun g.D.Delegate g.D.Cx.Cx same same_result
+            (call_for b query c.loop-query.cache from answer now.ran.0 new to)) then.builder.same_noop now.ran.1));
       };
       room = grind (arith, common_steps);
-      builder = builder_goes_on g.D.Delegate.starts g.D.Delegate.noop c.args.inspect.now c.loop-query.inspect c.evaluate_query-answer.new.inspect then.builder now.builder;
+      builder = builder_goes_on g.D.Delegate.starts g.D.Delegate.noop c.args.inspect.now c.loop-query.inspect
+          c.evaluate_query-answer.new.inspect then.builder now.builder;
     }
 
 -- ---- all were answered
@@ -53,7 +60,9 @@ returns-clause-ran g c =
       more = have.more;
       graphs = have.graphs;
       appended = have.appended ∙ ap (λ old. old ++ have.more) c.reserve.ensures.items;
-      ran = subst (λ queries. AllRan g.D.Delegate g.D.Cx.Cx g.D.Cx.Input.PartialEq.eq g.D.Cx.Result.PartialEq.eq (g.D.Delegate.noop c.args.inspect.now) c.args.cache.now (g.D.Delegate.starts c.args.inspect.now) queries have.more have.graphs c.loop-query.cache (g.D.Delegate.starts c.loop-query.inspect))
+      ran = subst (λ queries. AllRan g.D.Delegate g.D.Cx.Cx g.D.Cx.Input.PartialEq.eq g.D.Cx.Result.PartialEq.eq
+          (g.D.Delegate.noop c.args.inspect.now) c.args.cache.now (g.D.Delegate.starts c.args.inspect.now) queries
+          have.more have.graphs c.loop-query.cache (g.D.Delegate.starts c.loop-query.inspect))
           (take_all c.loop-query.query-index c.args.queries.now c.loop-query-test.false) have.ran;
     }
 

@@ -23,7 +23,8 @@ returns-clause-ran g c =
           no_drafts = c.new-drafts.ensures;
         };
         evaluated =
-            WasWorkedOut c.work_out-answer.result c.work_out-answer.new.cache after (g.D.Delegate.starts c.work_out-answer.new.inspect) refl
+            WasWorkedOut c.work_out-answer.result c.work_out-answer.new.cache after
+            (g.D.Delegate.starts c.work_out-answer.new.inspect) refl
             (record { recorded = λ records. refl; expected = record { expected = tt; plain = λ n plain fits. tt } })
             (rw c.new-evaluation.ensures.begins at c.work_out-answer.ensures.ran);
       },
@@ -60,12 +61,15 @@ returns-clause-keeps g c = run_keeps (returns-clause-ran g c).1
 
 pub work_out-answer-requires-clause-outset : goal.work_out-answer-requires-clause-outset
 work_out-answer-requires-clause-outset g c = record {
-  new = rw c.new-evaluation.ensures.begins (record { no_goals = refl; no_scopes = refl; no_entries = refl; fits = c.new-evaluation.ensures.fits });
-  no_drafts = subst (λ e. HasNoDrafts c.args.cache.now.nodes e.drafts) (sym c.new-evaluation.ensures.begins) c.new-drafts.ensures;
+  new = rw c.new-evaluation.ensures.begins
+      (record { no_goals = refl; no_scopes = refl; no_entries = refl; fits = c.new-evaluation.ensures.fits });
+  no_drafts = subst (λ e. HasNoDrafts c.args.cache.now.nodes e.drafts)
+      (sym c.new-evaluation.ensures.begins) c.new-drafts.ensures;
 }
 
 pub work_out-answer-requires-clause-in_scope : goal.work_out-answer-requires-clause-in_scope
 work_out-answer-requires-clause-in_scope g c = refl
 
 pub work_out-answer-requires-clause-fated : goal.work_out-answer-requires-clause-fated
-work_out-answer-requires-clause-fated g c = record { recorded = λ records. refl; expected = record { expected = tt; plain = λ n plain fits. tt } }
+work_out-answer-requires-clause-fated g c =
+    record { recorded = λ records. refl; expected = record { expected = tt; plain = λ n plain fits. tt } }

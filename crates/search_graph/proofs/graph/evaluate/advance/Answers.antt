@@ -8,71 +8,119 @@ use Rattle.search_rules.proofs.moves.Moves.{can_step, some_waits}
 use Rattle.search_graph.proofs.graph.evaluate.advance.Goals as goal
 
 pub step-requires-clause-some : goal.step-requires-clause-some
-step-requires-clause-some g c = some_waits g.D.Delegate g.D.Cx.Cx c.args.cache.now.cx c.requires.reply.call c.args.received.reply c.args.evaluation.now.goals _ _ c.requires.reply.waiting
+step-requires-clause-some g c = some_waits g.D.Delegate g.D.Cx.Cx c.args.cache.now.cx c.requires.reply.call
+    c.args.received.reply c.args.evaluation.now.goals _ _ c.requires.reply.waiting
 
 pub step-requires-clause-can_step : goal.step-requires-clause-can_step
 step-requires-clause-can_step g c =
-    subst (λ x. CanStep g.D.Delegate g.D.Cx.Cx x c.args.received.reply c.args.evaluation.now.goals) (sym c.cx-cx.ensures)
-    (can_step g.D.Delegate g.D.Cx.Cx c.args.cache.now.cx c.requires.reply.call c.args.received.reply c.args.evaluation.now.goals _ _ c.requires.reply.waiting)
+    subst (λ x. CanStep g.D.Delegate g.D.Cx.Cx x c.args.received.reply c.args.evaluation.now.goals)
+    (sym c.cx-cx.ensures)
+    (can_step g.D.Delegate g.D.Cx.Cx c.args.cache.now.cx c.requires.reply.call c.args.received.reply
+    c.args.evaluation.now.goals _ _ c.requires.reply.waiting)
 
 pub returns-in_err-request-clause-advanced : goal.returns-in_err-request-clause-advanced
 returns-in_err-request-clause-advanced g c =
-    fails_in_frame g.D.Delegate g.D.Cx.Cx g.D.Cx.Input.PartialEq.eq g.D.Cx.Result.PartialEq.eq (g.D.Delegate.noop c.args.inspect.now) c.args.received c.args.cache.now c.args.evaluation.now (g.D.Delegate.starts c.args.inspect.now) c.cx-cx.result c.cx-cx.ensures
-    _ c.step.new.goals _ c.step.ensures.same_starts c.in_err-request.ensures.fault c.from_residual.result c.from_residual.ensures.1
+    fails_in_frame g.D.Delegate g.D.Cx.Cx g.D.Cx.Input.PartialEq.eq g.D.Cx.Result.PartialEq.eq
+    (g.D.Delegate.noop c.args.inspect.now) c.args.received c.args.cache.now c.args.evaluation.now
+    (g.D.Delegate.starts c.args.inspect.now) c.cx-cx.result c.cx-cx.ensures
+    _ c.step.new.goals _ c.step.ensures.same_starts c.in_err-request.ensures.fault
+    c.from_residual.result c.from_residual.ensures.1
 
 -- ---- a question
 
 pub ask-requires-clause-made : goal.ask-requires-clause-made
-ask-requires-clause-made g c = has_request g.D.Delegate g.D.Cx.Cx g.D.Cx.Input.PartialEq.eq c.args.cache.now.cx c.args.cache.now c.args.evaluation.now c.args.received c.cx-cx.result c.cx-cx.ensures c.in_ok-request.request c.step.new.goals c.in_ok-request.ensures.stepped (g.D.Delegate.starts c.args.inspect.now) (g.D.Delegate.starts c.step.new.inspect) c.step.ensures.same_starts (Evaluate c.in-Evaluate.kind c.in-Evaluate.input) c.in-Evaluate.is refl c.requires.reply
+ask-requires-clause-made g c =
+    has_request g.D.Delegate g.D.Cx.Cx g.D.Cx.Input.PartialEq.eq c.args.cache.now.cx c.args.cache.now
+    c.args.evaluation.now c.args.received c.cx-cx.result c.cx-cx.ensures c.in_ok-request.request c.step.new.goals
+    c.in_ok-request.ensures.stepped (g.D.Delegate.starts c.args.inspect.now) (g.D.Delegate.starts c.step.new.inspect)
+    c.step.ensures.same_starts (Evaluate c.in-Evaluate.kind c.in-Evaluate.input) c.in-Evaluate.is refl c.requires.reply
 
 pub ask-requires-clause-expected : goal.ask-requires-clause-expected
-ask-requires-clause-expected g c = has_expected g.D.Delegate g.D.Cx.Cx g.D.Cx.Input.PartialEq.eq c.args.cache.now.cx c.args.cache.now c.args.evaluation.now c.args.received c.cx-cx.result c.cx-cx.ensures c.in_ok-request.request c.step.new.goals c.in_ok-request.ensures.stepped c.requires.expected
+ask-requires-clause-expected g c = has_expected g.D.Delegate g.D.Cx.Cx g.D.Cx.Input.PartialEq.eq c.args.cache.now.cx
+    c.args.cache.now c.args.evaluation.now c.args.received c.cx-cx.result c.cx-cx.ensures c.in_ok-request.request
+    c.step.new.goals c.in_ok-request.ensures.stepped c.requires.expected
 
 pub returns-in_err-next-in-Evaluate-clause-advanced : goal.returns-in_err-next-in-Evaluate-clause-advanced
 returns-in_err-next-in-Evaluate-clause-advanced g c =
-    fails_to_ask g.D.Delegate g.D.Cx.Cx g.D.Cx.Input.PartialEq.eq g.D.Cx.Result.PartialEq.eq (g.D.Delegate.noop c.args.inspect.now) c.args.received c.args.cache.now c.args.evaluation.now (g.D.Delegate.starts c.args.inspect.now) c.cx-cx.result c.cx-cx.ensures
-    c.in_ok-request.request c.step.new.goals c.in_ok-request.ensures.stepped (g.D.Delegate.starts c.step.new.inspect) c.step.ensures.same_starts c.ask.new.cache c.ask.new.evaluation (g.D.Delegate.starts c.ask.new.inspect) c.in-Evaluate.kind c.in-Evaluate.input c.in-Evaluate.is
+    fails_to_ask g.D.Delegate g.D.Cx.Cx g.D.Cx.Input.PartialEq.eq g.D.Cx.Result.PartialEq.eq
+    (g.D.Delegate.noop c.args.inspect.now) c.args.received c.args.cache.now c.args.evaluation.now
+    (g.D.Delegate.starts c.args.inspect.now) c.cx-cx.result c.cx-cx.ensures
+    c.in_ok-request.request c.step.new.goals c.in_ok-request.ensures.stepped (g.D.Delegate.starts c.step.new.inspect)
+    c.step.ensures.same_starts c.ask.new.cache c.ask.new.evaluation (g.D.Delegate.starts c.ask.new.inspect)
+    c.in-Evaluate.kind c.in-Evaluate.input c.in-Evaluate.is
     c.ask.ensures.asks
-    c.in_err-next-in-Evaluate.ensures.fails c.from_residual-in_err-next-in-Evaluate.result c.from_residual-in_err-next-in-Evaluate.ensures.1
+    c.in_err-next-in-Evaluate.ensures.fails c.from_residual-in_err-next-in-Evaluate.result
+    c.from_residual-in_err-next-in-Evaluate.ensures.1
 
 pub returns-in_ok-next-in-Evaluate-clause-advanced : goal.returns-in_ok-next-in-Evaluate-clause-advanced
 returns-in_ok-next-in-Evaluate-clause-advanced g c =
-    asks g.D.Delegate g.D.Cx.Cx g.D.Cx.Input.PartialEq.eq g.D.Cx.Result.PartialEq.eq (g.D.Delegate.noop c.args.inspect.now) c.args.received c.args.cache.now c.args.evaluation.now (g.D.Delegate.starts c.args.inspect.now) c.cx-cx.result c.cx-cx.ensures
-    c.in_ok-request.request c.step.new.goals c.in_ok-request.ensures.stepped (g.D.Delegate.starts c.step.new.inspect) c.step.ensures.same_starts c.ask.new.cache c.ask.new.evaluation (g.D.Delegate.starts c.ask.new.inspect) c.in-Evaluate.kind c.in-Evaluate.input c.in-Evaluate.is
+    asks g.D.Delegate g.D.Cx.Cx g.D.Cx.Input.PartialEq.eq g.D.Cx.Result.PartialEq.eq
+    (g.D.Delegate.noop c.args.inspect.now) c.args.received c.args.cache.now c.args.evaluation.now
+    (g.D.Delegate.starts c.args.inspect.now) c.cx-cx.result c.cx-cx.ensures
+    c.in_ok-request.request c.step.new.goals c.in_ok-request.ensures.stepped (g.D.Delegate.starts c.step.new.inspect)
+    c.step.ensures.same_starts c.ask.new.cache c.ask.new.evaluation (g.D.Delegate.starts c.ask.new.inspect)
+    c.in-Evaluate.kind c.in-Evaluate.input c.in-Evaluate.is
     c.ask.ensures.asks
-    (g.D.Delegate.noop c.step.new.inspect) c.step.ensures.same_noop c.in_ok-next-in-Evaluate.next c.in_ok-next-in-Evaluate.ensures.asked
+    (g.D.Delegate.noop c.step.new.inspect) c.step.ensures.same_noop c.in_ok-next-in-Evaluate.next
+    c.in_ok-next-in-Evaluate.ensures.asked
 
 -- ---- the end of a run
 
 pub finish_run-requires-clause-made : goal.finish_run-requires-clause-made
-finish_run-requires-clause-made g c = has_request g.D.Delegate g.D.Cx.Cx g.D.Cx.Input.PartialEq.eq c.args.cache.now.cx c.args.cache.now c.args.evaluation.now c.args.received c.cx-cx.result c.cx-cx.ensures c.in_ok-request.request c.step.new.goals c.in_ok-request.ensures.stepped (g.D.Delegate.starts c.args.inspect.now) (g.D.Delegate.starts c.step.new.inspect) c.step.ensures.same_starts (Done c.in-Done.outcome) c.in-Done.is refl c.requires.reply
+finish_run-requires-clause-made g c =
+    has_request g.D.Delegate g.D.Cx.Cx g.D.Cx.Input.PartialEq.eq c.args.cache.now.cx c.args.cache.now
+    c.args.evaluation.now c.args.received c.cx-cx.result c.cx-cx.ensures c.in_ok-request.request c.step.new.goals
+    c.in_ok-request.ensures.stepped (g.D.Delegate.starts c.args.inspect.now) (g.D.Delegate.starts c.step.new.inspect)
+    c.step.ensures.same_starts (Done c.in-Done.outcome) c.in-Done.is refl c.requires.reply
 
 pub finish_run-requires-clause-expected : goal.finish_run-requires-clause-expected
-finish_run-requires-clause-expected g c = has_expected g.D.Delegate g.D.Cx.Cx g.D.Cx.Input.PartialEq.eq c.args.cache.now.cx c.args.cache.now c.args.evaluation.now c.args.received c.cx-cx.result c.cx-cx.ensures c.in_ok-request.request c.step.new.goals c.in_ok-request.ensures.stepped c.requires.expected
+finish_run-requires-clause-expected g c = has_expected g.D.Delegate g.D.Cx.Cx g.D.Cx.Input.PartialEq.eq
+    c.args.cache.now.cx c.args.cache.now c.args.evaluation.now c.args.received c.cx-cx.result c.cx-cx.ensures
+    c.in_ok-request.request c.step.new.goals c.in_ok-request.ensures.stepped c.requires.expected
 
 pub finish_run-requires-clause-held : goal.finish_run-requires-clause-held
-finish_run-requires-clause-held g c = has_held g.D.Delegate g.D.Cx.Cx g.D.Cx.Input.PartialEq.eq c.args.cache.now.cx c.args.cache.now c.args.evaluation.now c.args.received c.cx-cx.result c.cx-cx.ensures c.in_ok-request.request c.step.new.goals c.in_ok-request.ensures.stepped c.requires.held
+finish_run-requires-clause-held g c = has_held g.D.Delegate g.D.Cx.Cx g.D.Cx.Input.PartialEq.eq c.args.cache.now.cx
+    c.args.cache.now c.args.evaluation.now c.args.received c.cx-cx.result c.cx-cx.ensures c.in_ok-request.request
+    c.step.new.goals c.in_ok-request.ensures.stepped c.requires.held
 
 pub returns-in-Done-clause-advanced : goal.returns-in-Done-clause-advanced
 returns-in-Done-clause-advanced g c =
-    ends g.D.Delegate g.D.Cx.Cx g.D.Cx.Input.PartialEq.eq g.D.Cx.Result.PartialEq.eq (g.D.Delegate.noop c.args.inspect.now) c.args.received c.args.cache.now c.args.evaluation.now (g.D.Delegate.starts c.args.inspect.now) c.cx-cx.result c.cx-cx.ensures
-    c.in_ok-request.request c.step.new.goals c.in_ok-request.ensures.stepped (g.D.Delegate.starts c.step.new.inspect) c.step.ensures.same_starts c.finish_run.new.cache c.finish_run.new.evaluation (g.D.Delegate.starts c.finish_run.new.inspect) c.in-Done.outcome c.in-Done.is c.finish_run.result c.has_runs.ensures c.finish_run.ensures.ended
+    ends g.D.Delegate g.D.Cx.Cx g.D.Cx.Input.PartialEq.eq g.D.Cx.Result.PartialEq.eq
+    (g.D.Delegate.noop c.args.inspect.now) c.args.received c.args.cache.now c.args.evaluation.now
+    (g.D.Delegate.starts c.args.inspect.now) c.cx-cx.result c.cx-cx.ensures
+    c.in_ok-request.request c.step.new.goals c.in_ok-request.ensures.stepped (g.D.Delegate.starts c.step.new.inspect)
+    c.step.ensures.same_starts c.finish_run.new.cache c.finish_run.new.evaluation
+    (g.D.Delegate.starts c.finish_run.new.inspect) c.in-Done.outcome c.in-Done.is c.finish_run.result
+    c.has_runs.ensures c.finish_run.ensures.ended
 
 -- ---- candidates
 
 pub note_candidate-requires-clause-some : goal.note_candidate-requires-clause-some
-note_candidate-requires-clause-some g c = stepped_some g.D.Delegate g.D.Cx.Cx c.cx-cx.result c.args.received c.in_ok-request.request c.args.evaluation.now.goals c.step.new.goals c.in_ok-request.ensures.stepped
+note_candidate-requires-clause-some g c = stepped_some g.D.Delegate g.D.Cx.Cx c.cx-cx.result c.args.received
+    c.in_ok-request.request c.args.evaluation.now.goals c.step.new.goals c.in_ok-request.ensures.stepped
 
 pub note_candidate-requires-clause-can_note : goal.note_candidate-requires-clause-can_note
-note_candidate-requires-clause-can_note g c = can_note g.D.Delegate g.D.Cx.Cx c.cx-cx.result c.args.cache.now.nodes c.args.received c.in_ok-request.request c.args.evaluation.now.goals c.step.new.goals c.in_ok-request.ensures.stepped c.requires.reply.right.fits c.requires.reply.right.right.justified
+note_candidate-requires-clause-can_note g c = can_note g.D.Delegate g.D.Cx.Cx c.cx-cx.result c.args.cache.now.nodes
+    c.args.received c.in_ok-request.request c.args.evaluation.now.goals c.step.new.goals c.in_ok-request.ensures.stepped
+    c.requires.reply.right.fits c.requires.reply.right.right.justified
 
-pub returns-in_err-note_candidate-in_default-clause-advanced : goal.returns-in_err-note_candidate-in_default-clause-advanced
+pub returns-in_err-note_candidate-in_default-clause-advanced :
+    goal.returns-in_err-note_candidate-in_default-clause-advanced
 returns-in_err-note_candidate-in_default-clause-advanced g c =
-    fails_to_note g.D.Delegate g.D.Cx.Cx g.D.Cx.Input.PartialEq.eq g.D.Cx.Result.PartialEq.eq (g.D.Delegate.noop c.args.inspect.now) c.args.received c.args.cache.now c.args.evaluation.now (g.D.Delegate.starts c.args.inspect.now) c.cx-cx.result c.cx-cx.ensures
-    c.in_ok-request.request c.step.new.goals c.in_ok-request.ensures.stepped c.note_candidate.new.self (g.D.Delegate.starts c.step.new.inspect) c.step.ensures.same_starts c.from_residual-in_err-note_candidate-in_default.result c.from_residual-in_err-note_candidate-in_default.ensures.1
+    fails_to_note g.D.Delegate g.D.Cx.Cx g.D.Cx.Input.PartialEq.eq g.D.Cx.Result.PartialEq.eq
+    (g.D.Delegate.noop c.args.inspect.now) c.args.received c.args.cache.now c.args.evaluation.now
+    (g.D.Delegate.starts c.args.inspect.now) c.cx-cx.result c.cx-cx.ensures
+    c.in_ok-request.request c.step.new.goals c.in_ok-request.ensures.stepped c.note_candidate.new.self
+    (g.D.Delegate.starts c.step.new.inspect) c.step.ensures.same_starts
+    c.from_residual-in_err-note_candidate-in_default.result c.from_residual-in_err-note_candidate-in_default.ensures.1
 
-pub returns-in_ok-note_candidate-in_default-clause-advanced : goal.returns-in_ok-note_candidate-in_default-clause-advanced
+pub returns-in_ok-note_candidate-in_default-clause-advanced :
+    goal.returns-in_ok-note_candidate-in_default-clause-advanced
 returns-in_ok-note_candidate-in_default-clause-advanced g c =
-    notes g.D.Delegate g.D.Cx.Cx g.D.Cx.Input.PartialEq.eq g.D.Cx.Result.PartialEq.eq (g.D.Delegate.noop c.args.inspect.now) c.args.received c.args.cache.now c.args.evaluation.now (g.D.Delegate.starts c.args.inspect.now) c.cx-cx.result c.cx-cx.ensures
-    c.in_ok-request.request c.step.new.goals c.in_ok-request.ensures.stepped c.note_candidate.new.self (g.D.Delegate.starts c.step.new.inspect) c.step.ensures.same_starts
-    (about_candidates c.in_ok-request.request c.in_default.not-Evaluate c.in_default.not-Done) c.in_ok-note_candidate-in_default.ensures _ c.without_node.ensures
+    notes g.D.Delegate g.D.Cx.Cx g.D.Cx.Input.PartialEq.eq g.D.Cx.Result.PartialEq.eq
+    (g.D.Delegate.noop c.args.inspect.now) c.args.received c.args.cache.now c.args.evaluation.now
+    (g.D.Delegate.starts c.args.inspect.now) c.cx-cx.result c.cx-cx.ensures
+    c.in_ok-request.request c.step.new.goals c.in_ok-request.ensures.stepped c.note_candidate.new.self
+    (g.D.Delegate.starts c.step.new.inspect) c.step.ensures.same_starts
+    (about_candidates c.in_ok-request.request c.in_default.not-Evaluate c.in_default.not-Done)
+    c.in_ok-note_candidate-in_default.ensures _ c.without_node.ensures

@@ -24,8 +24,11 @@ collect_drafts-requires-clause-noted g c = noted_after c.requires.drafts c.advan
 
 pub returns-in-Ok-Step-clause-turned : goal.returns-in-Ok-Step-clause-turned
 returns-in-Ok-Step-clause-turned g c =
-    GoesOn c.in-Ok-Step.given c.advance.new.cache c.collect_drafts.new.cache c.advance.new.evaluation c.collect_drafts.new.evaluation (g.D.Delegate.starts c.advance.new.inspect) (rw (c.in-Ok-Step.is, c.in-Ok-Step.field-0-is) at c.advance.ensures.advanced)
-    c.collect_drafts.ensures.lets_go c.collect_drafts.ensures.rest c.collect_drafts.ensures.first c.collect_drafts.ensures.stored
+    GoesOn c.in-Ok-Step.given c.advance.new.cache c.collect_drafts.new.cache c.advance.new.evaluation
+    c.collect_drafts.new.evaluation (g.D.Delegate.starts c.advance.new.inspect)
+    (rw (c.in-Ok-Step.is, c.in-Ok-Step.field-0-is) at c.advance.ensures.advanced)
+    c.collect_drafts.ensures.lets_go c.collect_drafts.ensures.rest
+    c.collect_drafts.ensures.first c.collect_drafts.ensures.stored
 
 -- ---- and once the call has its answer
 
@@ -35,16 +38,29 @@ collect_at_end-requires-clause-before g c = advanced_before c.requires.drafts c.
 pub collect_at_end-requires-clause-noted : goal.collect_at_end-requires-clause-noted
 collect_at_end-requires-clause-noted g c = noted_after c.requires.drafts c.advance.ensures.advanced
 
-pub returns-in_ok-collect_at_end-in-Ok-Finished-clause-turned : goal.returns-in_ok-collect_at_end-in-Ok-Finished-clause-turned
+pub returns-in_ok-collect_at_end-in-Ok-Finished-clause-turned :
+    goal.returns-in_ok-collect_at_end-in-Ok-Finished-clause-turned
 returns-in_ok-collect_at_end-in-Ok-Finished-clause-turned g c =
-    Answered c.in-Ok-Finished.answer c.advance.new.cache c.collect_at_end.new.cache c.advance.new.evaluation (g.D.Delegate.starts c.advance.new.inspect) (rw (c.in-Ok-Finished.is, c.in-Ok-Finished.field-0-is) at c.advance.ensures.advanced) c.in_ok-collect_at_end-in-Ok-Finished.ensures.settles
+    Answered c.in-Ok-Finished.answer c.advance.new.cache c.collect_at_end.new.cache c.advance.new.evaluation
+    (g.D.Delegate.starts c.advance.new.inspect)
+    (rw (c.in-Ok-Finished.is, c.in-Ok-Finished.field-0-is) at c.advance.ensures.advanced)
+    c.in_ok-collect_at_end-in-Ok-Finished.ensures.settles
 
 -- where there was no memory for that
-pub returns-in_err-collect_at_end-in-Ok-Finished-clause-turned : goal.returns-in_err-collect_at_end-in-Ok-Finished-clause-turned
+pub returns-in_err-collect_at_end-in-Ok-Finished-clause-turned :
+    goal.returns-in_err-collect_at_end-in-Ok-Finished-clause-turned
 returns-in_err-collect_at_end-in-Ok-Finished-clause-turned g c =
-    subst (λ r. Turned g.D.Delegate g.D.Cx.Cx g.D.Cx.Input.PartialEq.eq g.D.Cx.Result.PartialEq.eq (g.D.Delegate.noop c.args.inspect.now) c.args.received c.args.cache.now c.args.evaluation.now (g.D.Delegate.starts c.args.inspect.now) r c.collect_at_end.new.cache c.advance.new.evaluation (g.D.Delegate.starts c.advance.new.inspect)) (same_err c.from_residual.result Memory c.from_residual.ensures.1)
-    (subst (λ cache. Turned g.D.Delegate g.D.Cx.Cx g.D.Cx.Input.PartialEq.eq g.D.Cx.Result.PartialEq.eq (g.D.Delegate.noop c.args.inspect.now) c.args.received c.args.cache.now c.args.evaluation.now (g.D.Delegate.starts c.args.inspect.now) (Err Memory) cache c.advance.new.evaluation (g.D.Delegate.starts c.advance.new.inspect)) (sym c.in_err-collect_at_end-in-Ok-Finished.ensures.refused)
-    (NotAnswered c.in-Ok-Finished.answer c.advance.new.cache c.advance.new.evaluation (g.D.Delegate.starts c.advance.new.inspect) (rw (c.in-Ok-Finished.is, c.in-Ok-Finished.field-0-is) at c.advance.ensures.advanced)))
+    subst (λ r. Turned g.D.Delegate g.D.Cx.Cx g.D.Cx.Input.PartialEq.eq g.D.Cx.Result.PartialEq.eq
+    (g.D.Delegate.noop c.args.inspect.now) c.args.received c.args.cache.now c.args.evaluation.now
+    (g.D.Delegate.starts c.args.inspect.now) r c.collect_at_end.new.cache c.advance.new.evaluation
+    (g.D.Delegate.starts c.advance.new.inspect)) (same_err c.from_residual.result Memory c.from_residual.ensures.1)
+    (subst (λ cache. Turned g.D.Delegate g.D.Cx.Cx g.D.Cx.Input.PartialEq.eq g.D.Cx.Result.PartialEq.eq
+    (g.D.Delegate.noop c.args.inspect.now) c.args.received c.args.cache.now c.args.evaluation.now
+    (g.D.Delegate.starts c.args.inspect.now) (Err Memory) cache c.advance.new.evaluation
+    (g.D.Delegate.starts c.advance.new.inspect)) (sym c.in_err-collect_at_end-in-Ok-Finished.ensures.refused)
+    (NotAnswered c.in-Ok-Finished.answer c.advance.new.cache c.advance.new.evaluation
+    (g.D.Delegate.starts c.advance.new.inspect)
+    (rw (c.in-Ok-Finished.is, c.in-Ok-Finished.field-0-is) at c.advance.ensures.advanced)))
 
 -- ---- and after a fault
 
@@ -56,11 +72,21 @@ give_up-requires-clause-noted g c = noted_after c.requires.drafts c.advance.ensu
 
 pub returns-in_ok-give_up-in-Err-clause-turned : goal.returns-in_ok-give_up-in-Err-clause-turned
 returns-in_ok-give_up-in-Err-clause-turned g c =
-    Failed c.in-Err.fault c.advance.new.cache c.give_up.new.cache c.advance.new.evaluation c.give_up.new.evaluation (g.D.Delegate.starts c.advance.new.inspect) (rw c.in-Err.is at c.advance.ensures.advanced) c.in_ok-give_up-in-Err.ensures.settles c.give_up.ensures.rest
+    Failed c.in-Err.fault c.advance.new.cache c.give_up.new.cache c.advance.new.evaluation c.give_up.new.evaluation
+    (g.D.Delegate.starts c.advance.new.inspect) (rw c.in-Err.is at c.advance.ensures.advanced)
+    c.in_ok-give_up-in-Err.ensures.settles c.give_up.ensures.rest
 
 -- where there was no memory for that
 pub returns-in_err-give_up-in-Err-clause-turned : goal.returns-in_err-give_up-in-Err-clause-turned
 returns-in_err-give_up-in-Err-clause-turned g c =
-    subst (λ r. Turned g.D.Delegate g.D.Cx.Cx g.D.Cx.Input.PartialEq.eq g.D.Cx.Result.PartialEq.eq (g.D.Delegate.noop c.args.inspect.now) c.args.received c.args.cache.now c.args.evaluation.now (g.D.Delegate.starts c.args.inspect.now) r c.give_up.new.cache c.give_up.new.evaluation (g.D.Delegate.starts c.advance.new.inspect)) (same_err c.from_residual-in_err-give_up-in-Err.result Memory c.from_residual-in_err-give_up-in-Err.ensures.1)
-    (subst (λ cache. Turned g.D.Delegate g.D.Cx.Cx g.D.Cx.Input.PartialEq.eq g.D.Cx.Result.PartialEq.eq (g.D.Delegate.noop c.args.inspect.now) c.args.received c.args.cache.now c.args.evaluation.now (g.D.Delegate.starts c.args.inspect.now) (Err Memory) cache c.give_up.new.evaluation (g.D.Delegate.starts c.advance.new.inspect)) (sym c.in_err-give_up-in-Err.ensures.refused)
-    (FailedForGood c.in-Err.fault c.advance.new.cache c.advance.new.evaluation c.give_up.new.evaluation (g.D.Delegate.starts c.advance.new.inspect) (rw c.in-Err.is at c.advance.ensures.advanced) c.give_up.ensures.rest))
+    subst (λ r. Turned g.D.Delegate g.D.Cx.Cx g.D.Cx.Input.PartialEq.eq g.D.Cx.Result.PartialEq.eq
+    (g.D.Delegate.noop c.args.inspect.now) c.args.received c.args.cache.now c.args.evaluation.now
+    (g.D.Delegate.starts c.args.inspect.now) r c.give_up.new.cache c.give_up.new.evaluation
+    (g.D.Delegate.starts c.advance.new.inspect))
+    (same_err c.from_residual-in_err-give_up-in-Err.result Memory c.from_residual-in_err-give_up-in-Err.ensures.1)
+    (subst (λ cache. Turned g.D.Delegate g.D.Cx.Cx g.D.Cx.Input.PartialEq.eq g.D.Cx.Result.PartialEq.eq
+    (g.D.Delegate.noop c.args.inspect.now) c.args.received c.args.cache.now c.args.evaluation.now
+    (g.D.Delegate.starts c.args.inspect.now) (Err Memory) cache c.give_up.new.evaluation
+    (g.D.Delegate.starts c.advance.new.inspect)) (sym c.in_err-give_up-in-Err.ensures.refused)
+    (FailedForGood c.in-Err.fault c.advance.new.cache c.advance.new.evaluation c.give_up.new.evaluation
+    (g.D.Delegate.starts c.advance.new.inspect) (rw c.in-Err.is at c.advance.ensures.advanced) c.give_up.ensures.rest))

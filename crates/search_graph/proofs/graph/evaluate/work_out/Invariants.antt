@@ -7,7 +7,9 @@ use Rattle.search_graph.proofs.graph.evaluate.work_out.Given as goal
 -- what the call has done so far has led to the reply
 abbrev pub invariant-loop-next : goal.invariant-loop-next
 invariant-loop-next g l = record {
-  ran : Ran g.D.Delegate g.D.Cx.Cx g.D.Cx.Input.PartialEq.eq g.D.Cx.Result.PartialEq.eq (g.D.Delegate.noop l.fn.inspect) Inductive l.fn.input l.fn.fate l.fn.cache l.fn.evaluation (g.D.Delegate.starts l.fn.inspect) (Ok (Step l.received)) l.cache l.evaluation (g.D.Delegate.starts l.inspect);
+  ran : Ran g.D.Delegate g.D.Cx.Cx g.D.Cx.Input.PartialEq.eq g.D.Cx.Result.PartialEq.eq (g.D.Delegate.noop l.fn.inspect)
+      Inductive l.fn.input l.fn.fate l.fn.cache l.fn.evaluation (g.D.Delegate.starts l.fn.inspect)
+      (Ok (Step l.received)) l.cache l.evaluation (g.D.Delegate.starts l.inspect);
   builder : KeepsBuilder g.D.Delegate.starts g.D.Delegate.noop l.fn.inspect l.inspect;
 }
 

@@ -5,4 +5,5 @@ use Rattle.search_rules.proofs.look_up.OverStack.meets_entry.Given as goal
 
 -- the entries that are left decide
 abbrev pub invariant-loop-entry : goal.invariant-loop-entry
-invariant-loop-entry g l = list_any (could_be_used l.fn.self l.fn.paths) (drop l.entry-index l.entries) ≡ list_any (could_be_used l.fn.self l.fn.paths) l.entries
+invariant-loop-entry g l = list_any (could_be_used l.fn.self l.fn.paths) (drop l.entry-index l.entries)
+    ≡ list_any (could_be_used l.fn.self l.fn.paths) l.entries

@@ -11,6 +11,9 @@ unfolding IsDistinct
 returns-clause-distinct g c =
     let same = g.X.Input.PartialEq.eq in
     elim c.match-self.branch [
-      | in-Some w ↦ subst (λ goals. IsDistinct same (keys_of goals)) (w.deref.ensures ∙ sym (ap (λ goals. goals_in (option_map (λ b. b.value) goals)) w.in-Some.is) ∙ c.self.view_is) w.iter.ensures.distinct
-      | in-None w ↦ subst (λ goals. IsDistinct same (keys_of goals)) (sym (ap (λ goals. goals_in (option_map (λ b. b.value) goals)) w.in-None.is) ∙ c.self.view_is) tt
+      | in-Some w ↦ subst (λ goals. IsDistinct same (keys_of goals))
+          (w.deref.ensures ∙ sym (ap (λ goals. goals_in (option_map (λ b. b.value) goals)) w.in-Some.is)
+          ∙ c.self.view_is) w.iter.ensures.distinct
+      | in-None w ↦ subst (λ goals. IsDistinct same (keys_of goals))
+          (sym (ap (λ goals. goals_in (option_map (λ b. b.value) goals)) w.in-None.is) ∙ c.self.view_is) tt
     ]

@@ -7,4 +7,5 @@ past-requires g c = omega (arith, c.index.ensures, ap length (c.as_slice.ensures
 pub returns : goal.returns
 returns g c =
     let all = c.as_slice.ensures.value ∙ c.self.view_is in
-    ap (map (λ e. e.step_kind_from_parent)) (c.iter.ensures.rest ∙ c.past.ensures ∙ (λ i. drop (c.index.ensures i + 1) (all i)))
+    ap (map (λ e. e.step_kind_from_parent))
+    (c.iter.ensures.rest ∙ c.past.ensures ∙ (λ i. drop (c.index.ensures i + 1) (all i)))

@@ -10,10 +10,23 @@ returns-in-Some-clause-tells g c =
     let found : Some last ≡ slice_get c.self.inside.steps.items (length c.self.inside.steps.items - 1) =
     c.in-Some.ensures.value ∙ ap (λ steps. slice_get steps (length steps - 1)) c.deref.ensures.value in
     subst (λ entries. TellsKinds last (map (λ e. e.step_kind_from_parent) entries)) c.self.view_is
-    (last_tells c.self.inside.steps.items (map (λ e. e.step_kind_from_parent) c.self.inside.entries.items) last found c.self.invariant.1)
+    (last_tells c.self.inside.steps.items
+    (map (λ e. e.step_kind_from_parent) c.self.inside.entries.items) last found c.self.invariant.1)
 
 pub returns-in-Some-clause-fits : goal.returns-in-Some-clause-fits
-returns-in-Some-clause-fits g c = omega (arith, ap length c.self.view_is, c.self.inside.entries.ok.0, c.self.inside.entries.ok.1, c.self.inside.entries.small)
+returns-in-Some-clause-fits g c = omega (
+  arith,
+  ap length c.self.view_is,
+  c.self.inside.entries.ok.0,
+  c.self.inside.entries.ok.1,
+  c.self.inside.entries.small,
+)
 
 pub returns-in-None-clause-fits : goal.returns-in-None-clause-fits
-returns-in-None-clause-fits g c = omega (arith, ap length c.self.view_is, c.self.inside.entries.ok.0, c.self.inside.entries.ok.1, c.self.inside.entries.small)
+returns-in-None-clause-fits g c = omega (
+  arith,
+  ap length c.self.view_is,
+  c.self.inside.entries.ok.0,
+  c.self.inside.entries.ok.1,
+  c.self.inside.entries.small,
+)

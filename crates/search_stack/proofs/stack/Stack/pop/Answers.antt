@@ -13,17 +13,23 @@ last_of all rest x d parts is =
     let place : length all - 1 ≡ length rest = omega (arith, count) in
     is ∙ ap (λ n. get_or all n d) place ∙ ap (λ l. get_or l (length rest) d) parts ∙ get_or-append_seam rest x [] d
 
--- the last input is found no more, and each other one where it was; and the last steps up to the other entries are as before
+-- the last input is found no more, and each other one where it was; and the last steps up to the other
+-- entries are as before
 pub invariant_of-self : goal.invariant_of-self
 invariant_of-self g c =
     let all = c.self.inside.entries.items in
     let rest = c.pop-2.new.self.items in
     let parts : all ≡ rest ++ c.unwrap.result ∷ [] = grind (arith, common_steps) in
-    let last : c.last.result.now ≡ c.unwrap.result = last_of all rest c.unwrap.result c.last.result.now parts (rw (← c.self.view_is) at c.last.ensures) in (
-      IsIndex-pop g.X.Input.PartialEq.eq g.met.X.Input.Eq.laws g.met.X.Cx.same_input _ _ _ (map (λ e. e.input) c.self.inside.entries.items) c.unwrap.result.input
-          c.self.invariant.0 (ap (map (λ e. e.input)) parts ∙ map-append (λ e. e.input) rest (c.unwrap.result ∷ [])) (λ q. rw (← last) (c.remove.ensures.updates.0 q)),
-      AreLastSteps-pop _ (map (λ e. e.step_kind_from_parent) c.self.inside.entries.items) _ c.unwrap.result.step_kind_from_parent _ _
-          (ap (map (λ e. e.step_kind_from_parent)) parts ∙ map-append (λ e. e.step_kind_from_parent) rest (c.unwrap.result ∷ [])) c.self.inside.steps.ok.0 c.pop.ensures.rest c.self.invariant.1,
+    let last : c.last.result.now ≡ c.unwrap.result =
+    last_of all rest c.unwrap.result c.last.result.now parts (rw (← c.self.view_is) at c.last.ensures) in (
+      IsIndex-pop g.X.Input.PartialEq.eq g.met.X.Input.Eq.laws g.met.X.Cx.same_input _ _ _
+          (map (λ e. e.input) c.self.inside.entries.items) c.unwrap.result.input
+          c.self.invariant.0 (ap (map (λ e. e.input)) parts ∙ map-append (λ e. e.input) rest (c.unwrap.result ∷ []))
+          (λ q. rw (← last) (c.remove.ensures.updates.0 q)),
+      AreLastSteps-pop _ (map (λ e. e.step_kind_from_parent) c.self.inside.entries.items) _
+          c.unwrap.result.step_kind_from_parent _ _
+          (ap (map (λ e. e.step_kind_from_parent)) parts ∙ map-append (λ e. e.step_kind_from_parent) rest
+          (c.unwrap.result ∷ [])) c.self.inside.steps.ok.0 c.pop.ensures.rest c.self.invariant.1,
     )
 
 pub last-requires : goal.last-requires

@@ -8,4 +8,5 @@ pub returns : goal.returns
 returns g c =
     let kinds = map (λ e. e.step_kind_from_parent) c.args.self.now in
     let size : c.len-below.result ≡ length kinds = grind (arith, common_steps, c.self.invariant.1.each) in
-    rw c.with_step.ensures (TellsKinds-step c.last_steps.result kinds c.args.kind c.len-below.result size c.last_steps.ensures.tells)
+    rw c.with_step.ensures
+    (TellsKinds-step c.last_steps.result kinds c.args.kind c.len-below.result size c.last_steps.ensures.tells)

@@ -7,9 +7,12 @@ use Rattle.table_runs.specs.Right.{SomeGraphShows}
 
 pub returns-clause-accepted : goal.returns-clause-accepted
 returns-clause-accepted g c = λ has definite.
-    is_accepted (verdicts g.X.Cx) (g.D.Delegate.script c.cx-cx.result) c.in-Some.graph.nodes.items c.args.goal c.args.outcome c.sort.result c.check_graph.result c.sort.ensures.yes c.sort.ensures.no definite
-    (λ says_yes. rw c.cx-cx.ensures (rw c.in-Some.is at (c.in_ok-graph.ensures.valid_yes c.args.goal c.args.outcome has says_yes)))
-    (λ says_no. rw c.cx-cx.ensures (rw c.in-Some.is at (c.in_ok-graph.ensures.valid_no c.args.goal c.args.outcome has says_no)))
+    is_accepted (verdicts g.X.Cx) (g.D.Delegate.script c.cx-cx.result) c.in-Some.graph.nodes.items c.args.goal
+    c.args.outcome c.sort.result c.check_graph.result c.sort.ensures.yes c.sort.ensures.no definite
+    (λ says_yes. rw c.cx-cx.ensures
+    (rw c.in-Some.is at (c.in_ok-graph.ensures.valid_yes c.args.goal c.args.outcome has says_yes)))
+    (λ says_no. rw c.cx-cx.ensures
+    (rw c.in-Some.is at (c.in_ok-graph.ensures.valid_no c.args.goal c.args.outcome has says_no)))
     c.check_graph.ensures.exact
 
 pub returns-clause-shown : goal.returns-clause-shown

@@ -7,12 +7,19 @@ use Rattle.trees.proofs.program.shown.show.Goals as goal
 pub returns-in-Ok-clause-shown : goal.returns-in-Ok-clause-shown
 returns-in-Ok-clause-shown g c =
     let call = c.evaluate_root_goal_for_proof_tree-came.ensures in
-    let tree : Tree = record { recorder = c.evaluate_root_goal_for_proof_tree-came.new.inspect; came = c.evaluate_root_goal_for_proof_tree-came.result } in
+    let tree : Tree = record {
+      recorder = c.evaluate_root_goal_for_proof_tree-came.new.inspect;
+      came = c.evaluate_root_goal_for_proof_tree-came.result;
+    } in
     record {
       tree = tree;
       worked_out = record {
         fresh = c.new-recorder.result;
-        is_fresh = record { recording = c.new-recorder.ensures.records; no_entries = c.new-recorder.ensures.empty; no_frames = ap started_in c.new-recorder.ensures.inner ∙ c.new-builder.ensures.started };
+        is_fresh = record {
+          recording = c.new-recorder.ensures.records;
+          no_entries = c.new-recorder.ensures.empty;
+          no_frames = ap started_in c.new-recorder.ensures.inner ∙ c.new-builder.ensures.started;
+        };
         records = call.builder.same_noop;
         before = c.new-cache.result;
         is_empty = c.new-cache.ensures;

@@ -9,4 +9,5 @@ use Rattle.trees.proofs.program.shown.show_questions.Given as goal
 abbrev pub invariant-loop-question : goal.invariant-loop-question
 invariant-loop-question g l =
     let contents = g.W.Write.contents in
-    AreToldTo (words_shown l.rules) is_fine (AreWorkedOut g.D.Delegate g.X.Cx eq-value.it eq-result.it l.fn.cx) (take l.question-index l.questions) (contents l.fn.out) (contents l.out) [] l.all_fine
+    AreToldTo (words_shown l.rules) is_fine (AreWorkedOut g.D.Delegate g.X.Cx eq-value.it eq-result.it l.fn.cx)
+    (take l.question-index l.questions) (contents l.fn.out) (contents l.out) [] l.all_fine

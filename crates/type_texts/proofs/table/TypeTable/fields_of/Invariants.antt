@@ -5,6 +5,7 @@ use Rattle.type_texts.proofs.table.TypeTable.fields_of.Given as goal
 
 abbrev pub invariant-loop-field : goal.invariant-loop-field
 invariant-loop-field l = record {
-  fields : AllZip (IsSameField (names_of l.self) (labels_of l.self)) l.fields.items (map named (take l.field-index l.written));
+  fields : AllZip (IsSameField (names_of l.self) (labels_of l.self)) l.fields.items
+      (map named (take l.field-index l.written));
   grows : GrowsLabels l.fn.self l.self;
 }

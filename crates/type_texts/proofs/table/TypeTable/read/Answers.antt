@@ -6,19 +6,22 @@ use Rattle.type_texts.proofs.table.TypeTable.read.Goals as goal
 
 pub unguarded_union-requires-clause-declared : goal.unguarded_union-requires-clause-declared
 unguarded_union-requires-clause-declared c =
-    all_declared (map statement_of c.in_ok-lines.lines.items) c.in_ok-table.table (rw c.as_slice-2.ensures.value at c.in_ok-table.ensures.table)
+    all_declared (map statement_of c.in_ok-lines.lines.items) c.in_ok-table.table
+    (rw c.as_slice-2.ensures.value at c.in_ok-table.ensures.table)
     (c.in_ok-table.ensures.names ∙ (rw c.as_slice.ensures.value at c.in_ok-names.ensures.names))
 
 pub unguarded_union-requires-clause-all : goal.unguarded_union-requires-clause-all
 unguarded_union-requires-clause-all c =
-    c.count.ensures ∙ as_many_forms (map statement_of c.in_ok-lines.lines.items) c.in_ok-table.table (rw c.as_slice-2.ensures.value at c.in_ok-table.ensures.table)
+    c.count.ensures ∙ as_many_forms (map statement_of c.in_ok-lines.lines.items) c.in_ok-table.table
+    (rw c.as_slice-2.ensures.value at c.in_ok-table.ensures.table)
     (c.in_ok-table.ensures.names ∙ (rw c.as_slice.ensures.value at c.in_ok-names.ensures.names))
 
 -- what is a union of itself is declared
 pub line_declaring-requires : goal.line_declaring-requires
 line_declaring-requires c =
     let is_union = c.in_ok-number.ensures.some c.in-Some.number (ap Ok c.in-Some.is) in
-    rw c.as_slice-in-Some.ensures.value (unguarded_is_declared (map statement_of c.in_ok-lines.lines.items) c.in_ok-table.table c.in-Some.number
+    rw c.as_slice-in-Some.ensures.value
+    (unguarded_is_declared (map statement_of c.in_ok-lines.lines.items) c.in_ok-table.table c.in-Some.number
     (rw c.as_slice-2.ensures.value at c.in_ok-table.ensures.table) is_union)
 
 pub returns-in-Some-clause-unguarded : goal.returns-in-Some-clause-unguarded
@@ -29,7 +32,8 @@ returns-in-Some-clause-unguarded c = λ n e.
       table = c.in_ok-table.table;
       is_table = rw c.as_slice-2.ensures.value at c.in_ok-table.ensures.table;
       type = c.in-Some.number;
-      is_declared = subst (DeclaresType (map statement_of c.in_ok-lines.lines.items) c.in-Some.number) same (rw c.as_slice-in-Some.ensures.value at c.line_declaring.ensures);
+      is_declared = subst (DeclaresType (map statement_of c.in_ok-lines.lines.items) c.in-Some.number) same
+          (rw c.as_slice-in-Some.ensures.value at c.line_declaring.ensures);
       is_union = c.in_ok-number.ensures.some c.in-Some.number (ap Ok c.in-Some.is);
     }
 
@@ -48,7 +52,9 @@ returns-clause-read c =
     }
 
 pub names_in-requires : goal.names_in-requires
-names_in-requires c = rw c.as_slice.ensures.value (all_short _ (map statement_of c.in_ok-lines.lines.items) c.in_ok-lines.ensures.lines)
+names_in-requires c =
+    rw c.as_slice.ensures.value (all_short _ (map statement_of c.in_ok-lines.lines.items) c.in_ok-lines.ensures.lines)
 
 pub table_of-requires : goal.table_of-requires
-table_of-requires c = rw c.as_slice-2.ensures.value (all_short _ (map statement_of c.in_ok-lines.lines.items) c.in_ok-lines.ensures.lines)
+table_of-requires c =
+    rw c.as_slice-2.ensures.value (all_short _ (map statement_of c.in_ok-lines.lines.items) c.in_ok-lines.ensures.lines)

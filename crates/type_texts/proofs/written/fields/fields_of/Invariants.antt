@@ -5,4 +5,5 @@ use Rattle.type_texts.proofs.Spelling.{AreFieldsTo}
 use Rattle.type_texts.proofs.written.fields.fields_of.Given as goal
 
 abbrev pub invariant-loop-word : goal.invariant-loop-word
-invariant-loop-word l = AreFieldsTo (words_left l.fn.words) (words_left l.word-iterator) (map named l.fields.items) (option_copied l.due) l.is_closed
+invariant-loop-word l = AreFieldsTo (words_left l.fn.words) (words_left l.word-iterator)
+    (map named l.fields.items) (option_copied l.due) l.is_closed

@@ -1,11 +1,13 @@
 use Rattle.std.proofs.Common.{◌<◌, ◌≤◌, ◌∙◌, ap, get_or, length, subst}
 use Rattle.run_records.specs.Below.{NodeId}
 use Rattle.run_records.specs.Words.{HasTarget}
-use Rattle.run_records.proofs.Nodes.{all_more_kept, all_passed, has_pushed, keeps_target, kept_by_push, kept_by_same, kept_through}
+use Rattle.run_records.proofs.Nodes.{all_more_kept, all_passed, has_pushed, keeps_target, kept_by_push}
+use Rattle.run_records.proofs.Nodes.{kept_by_same, kept_through}
 use Rattle.run_records.proofs.progress.lists.Lists.push_targets.Goals as goal
 
 pub returns-in_err-push-clause-kept : goal.returns-in_err-push-clause-kept
-returns-in_err-push-clause-kept g c = kept_by_same c.args.nodes.now.items c.loop-packed.nodes.items c.push.new.self.items c.loop-packed.invariant.kept c.in_err-push.ensures.items
+returns-in_err-push-clause-kept g c = kept_by_same c.args.nodes.now.items c.loop-packed.nodes.items
+    c.push.new.self.items c.loop-packed.invariant.kept c.in_err-push.ensures.items
 
 pub loop-packed-preserved : goal.loop-packed-preserved
 loop-packed-preserved g c =
@@ -21,11 +23,13 @@ loop-packed-preserved g c =
     let at = c.packed-item.is ∙ ap (λ answers. get_or answers index answer) answers_are in
     record {
       kept = kept_through c.args.nodes.now.items few many c.loop-packed.invariant.kept kept;
-      so_far = all_more_kept HasTarget keeps_target few many c.args.self.now.answers index answer below at kept c.loop-packed.invariant.so_far (has_pushed few many node pushed);
+      so_far = all_more_kept HasTarget keeps_target few many c.args.self.now.answers index answer below at kept
+          c.loop-packed.invariant.so_far (has_pushed few many node pushed);
     }
 
 pub returns-clause-answers : goal.returns-clause-answers
 returns-clause-answers g c =
     let answers_are = c.deref-packed-items.ensures.value ∙ ap (λ r. r.answers) c.self.view_is in
     let past = subst (λ answers. length answers ≤ c.loop-packed.packed-index) answers_are c.loop-packed-test.false in
-    all_passed (HasTarget c.loop-packed.nodes.items) c.args.self.now.answers c.loop-packed.packed-index past c.loop-packed.invariant.so_far
+    all_passed (HasTarget c.loop-packed.nodes.items) c.args.self.now.answers
+    c.loop-packed.packed-index past c.loop-packed.invariant.so_far

@@ -24,9 +24,11 @@ loop-asked-preserved g c =
     elim c.match-asked.branch [
       | in-Some+in_ok-look_at w ↦ record {
         ongoing = subst IsSearch (sym w.self-is) w.in_ok-look_at.ensures.ongoing;
-        goes_on = subst (GoesOn c.args.self.now) (sym w.self-is) (goes_on_further _ _ _ so_far.goes_on w.in_ok-look_at.ensures.goes_on);
+        goes_on = subst (GoesOn c.args.self.now) (sym w.self-is)
+            (goes_on_further _ _ _ so_far.goes_on w.in_ok-look_at.ensures.goes_on);
         covered = subst (λ search. AreCovered search (IsAmongFirst all (c.loop-asked.asked + 1))) (sym w.self-is)
-            (one_more_asked all c.loop-asked.asked _ _ w.in-Some.part w.in_ok-look_at.ensures.goes_on (sym c.asked.ensures ∙ w.in-Some.is)
+            (one_more_asked all c.loop-asked.asked _ _ w.in-Some.part w.in_ok-look_at.ensures.goes_on
+            (sym c.asked.ensures ∙ w.in-Some.is)
             so_far.covered w.in_ok-look_at.ensures.covered);
         same_types = ap (declared_in types_of) w.subtyping-is ∙ w.in_ok-look_at.ensures.same_types ∙ so_far.same_types;
       }
@@ -42,4 +44,5 @@ loop-asked-preserved g c =
 pub returns-clause-covered : goal.returns-clause-covered
 returns-clause-covered g c =
     all_asked (pairs_of (types_in c.args.self.now) c.args.pair) c.loop-asked.asked _
-    (subst (λ n. n ≤ c.loop-asked.asked) c.asked_count-asked-end.ensures c.loop-asked-test.false) c.loop-asked.invariant.covered
+    (subst (λ n. n ≤ c.loop-asked.asked) c.asked_count-asked-end.ensures c.loop-asked-test.false)
+    c.loop-asked.invariant.covered

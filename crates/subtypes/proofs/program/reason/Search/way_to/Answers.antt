@@ -11,7 +11,8 @@ loop-at-preserved c =
     let search = c.args.self.now in
     let found = c.index-found.result.now in
     let is_at : slice_get search.found.items c.loop-at.at ≡ Some found =
-    slice_get_read search.found.items (length search.found.items) c.loop-at.at found refl c.loop-at.invariant.within c.index-found.ensures in
+    slice_get_read search.found.items (length search.found.items) c.loop-at.at found refl
+    c.loop-at.invariant.within c.index-found.ensures in
     let link = c.requires.ongoing.is_linked c.loop-at.at found is_at c.loop-at-test.true in
     let come = link.1 in
     let turned = ap reverse c.in_ok-push.ensures.items ∙ reverse-append c.loop-at.way.items (found.step ∷ []) in
@@ -19,11 +20,15 @@ loop-at-preserved c =
       within = at_within search found.from come.0 come.1;
       leads = λ last at_last.
           let on = c.loop-at.invariant.leads last at_last in
-          let same = one_at search c.loop-at.at on.0 found.pair on.1 (record { found = found; is_at = is_at; is_pair = refl }) in (
+          let same =
+          one_at search c.loop-at.at on.0 found.pair on.1 (record { found = found; is_at = is_at; is_pair = refl }) in (
             come.0,
             come.1,
-            subst (λ way. Leads (types_in search) way come.0 last) (sym turned)
-                (found.pair, come.2, subst (λ from. Leads (types_in search) (reverse c.loop-at.way.items) from last) same on.2),
+            subst (λ way. Leads (types_in search) way come.0 last) (sym turned) (
+              found.pair,
+              come.2,
+              subst (λ from. Leads (types_in search) (reverse c.loop-at.way.items) from last) same on.2,
+            ),
           );
     }
 

@@ -8,7 +8,8 @@ use Rattle.subtypes.proofs.program.reason.Search.way_to.Given as goal
 abbrev pub invariant-loop-at : goal.invariant-loop-at
 invariant-loop-at l = record {
   within : l.at < count_in l.self;
-  leads : (last : Pair) → IsAt l.self l.place last → (from : Pair) × IsAt l.self l.at from × Leads (types_in l.self) (reverse l.way.items) from last;
+  leads : (last : Pair) → IsAt l.self l.place last
+      → (from : Pair) × IsAt l.self l.at from × Leads (types_in l.self) (reverse l.way.items) from last;
 }
 
 abbrev pub decreases-loop-at : goal.decreases-loop-at
