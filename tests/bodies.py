@@ -7,7 +7,7 @@ FUNCTION = re.compile(r"(\s*)(?:pub(?:\([\w ]+\))? )?(?:const )?(?:unsafe )?fn (
 # What may be the call of a function.
 CALL = re.compile(r"(\w+)(?=::<|\()")
 # What rt says of an answer of a proof, and of what has none.
-ANSWER = re.compile(r"(?:\./)?proofs/(?:([\w+/]+)/)?\w+\.antt:\d+:\d+: error: (?:`([\w+-]+)`: )?(.*)")
+ANSWER = re.compile(r"(?:\./)?proofs/(?:(?:[\w+]+/)*([\w+]+)/)?\w+\.antt:\d+:\d+: error: (?:`([\w+-]+)`: )?(.*)")
 OPEN = re.compile(r"note: (?:\./)?src/([\w/]+)\.rt:(\d+):\d+: it is not proved that .* \(`([\w+-]+)`\)(.*)")
 # An answer that names what is there no longer says nothing of the contract.
 LOST = re.compile(r"has no field|is not in scope|has no `|was not admitted")
@@ -29,8 +29,8 @@ class WrongBody:
             elif line.startswith("new:"):
                 self.changes.append((path, old, line.removeprefix("new:").removeprefix(" ")))
 
-    def places(self, texts):
-        """The functions that it changes, each by its module and its name, or none where it changes anything else."""
+    def functions(self, texts):
+        """The names of the functions that it changes, or none where it changes anything else."""
         texts, found = dict(texts), set()
         for path, old, new in self.changes:
             found.add(function_at(path, texts[path], texts[path].index(old)))
@@ -41,12 +41,6 @@ class WrongBody:
         """Makes its changes."""
         for path, old, new in self.changes:
             texts[path] = texts[path].replace(old, new)
-
-
-def module_of(path):
-    """The module that a file of `src/` is."""
-    module = path.removeprefix("src/").removesuffix(".rt")
-    return "" if module in ("lib", "main") else module
 
 
 def functions_of(lines):
@@ -64,43 +58,44 @@ def last_of(lines, first):
 
 
 def function_at(path, text, place):
-    """The function in whose lines the place is, by its module and its name, or none."""
+    """The name of the function in whose lines the place is, or in one of the attributes before these, or none."""
     if not path.startswith("src/"):
         return None
     lines = text.split("\n")
     number = text.count("\n", 0, place)
+    while number + 1 < len(lines) and lines[number].lstrip().startswith("#["):
+        number += 1
     begins = (it for it in range(number, -1, -1) if FUNCTION.match(lines[it]))
     first = next((it for it in begins if number <= last_of(lines, it)), None)
-    return None if first is None else (module_of(path), FUNCTION.match(lines[first])[2])
+    return None if first is None else FUNCTION.match(lines[first])[2]
 
 
-def called_by(function, texts):
-    """The names that a function calls, or all that have its name in its module."""
-    module, name = function
+def called_by(name, texts):
+    """The names that a function calls, or all that have its name."""
     called = set()
     for path, text in texts.items():
-        if path.startswith("src/") and module_of(path) == module:
+        if path.startswith("src/"):
             for found, text in functions_of(without_silent(text).split("\n")):
                 if found == name:
                     called.update(CALL.findall(text))
     return called
 
 
-def apart(bodies, places, texts):
-    """Those of the bodies, in order, that can be judged in one check: no two change the same function, and none one that another one calls."""
+def apart(bodies, functions, texts):
+    """Those of the bodies, in order, that can be judged in one check: no two change functions of one name, and none one that another calls."""
     chosen, changed, called = [], set(), set()
     for body in bodies:
-        calls = set().union(*(called_by(it, texts) for it in places[body]))
-        names = {name for _, name in places[body]}
-        if changed.isdisjoint(places[body]) and called.isdisjoint(names) and calls.isdisjoint(name for _, name in changed):
+        calls = set().union(*(called_by(it, texts) for it in functions[body]))
+        if changed.isdisjoint(functions[body] | calls) and called.isdisjoint(functions[body]):
             chosen.append(body)
-            changed |= places[body]
+            changed |= functions[body]
             called |= calls
     return chosen
 
 
 class Told:
-    """What a check said: which goals of which functions are not proved, and why."""
+    """What a check said: which goals of which functions are not proved, and why. Functions are told by their names: of those with
+    one name no more than one is changed, and the folder of a method's proof names the type's module and not its own."""
 
     def __init__(self, said, texts):
         self.refused = {}
@@ -109,10 +104,7 @@ class Told:
         for line in said.split("\n"):
             answer, goal = ANSWER.match(line), OPEN.match(line)
             if answer:
-                # The folder of a method's proof names the type, too. A lemma is of no function.
-                *module, name = (answer[1] or "").split("/")
-                for end in range(len(module) + 1):
-                    self.note(("/".join(module[:end]), name), answer[2] or "an answer", answer[3])
+                self.note(answer[1], answer[2] or "an answer", answer[3])
             elif goal:
                 path = f"src/{goal[1]}.rt"
                 place = sum(len(it) + 1 for it in texts[path].split("\n")[: int(goal[2]) - 1])
