@@ -1,0 +1,80 @@
+-- When a type implements a trait. Traits and constructors are told by their numbers, their places in the lists.
+use Rattle.std.specs.Prelude.{◌≡◌, ℕ, true, List, map, slice_get, Contains, Some}
+use Rattle.std.specs.Option.{IsSomeAnd, option_map_or}
+use Rattle.path_kinds.specs.declared.path.PathKind.{PathKind}
+use Rattle.path_kinds.specs.declared.path.PathKind.TheVariants.{Inductive}
+use Rattle.search_context.specs.Question.{Overlap, Question}
+use Rattle.question_lists.specs.Derivations.{IsDerivable}
+use Rattle.trait_rules.specs.Terms.{Term, applied, constructor, constructor_of}
+pub use Rattle.trait_rules.specs.declared.rules.Bound.{Bound}
+pub use Rattle.trait_rules.specs.declared.rules.Bound.TheVariants.{Same, Trait as OfTrait}
+pub use Rattle.trait_rules.specs.declared.rules.Clause.{Clause}
+pub use Rattle.trait_rules.specs.declared.rules.Rule.{Rule}
+pub use Rattle.trait_rules.specs.declared.rules.Rules.{Rules}
+pub use Rattle.trait_rules.specs.declared.rules.Listed.{Listed}
+pub use Rattle.trait_rules.specs.declared.rules.Shape.{Shape}
+pub use Rattle.trait_rules.specs.declared.rules.Shape.TheVariants.{Parameter, Constructor, Applied}
+
+-- a question: whether the type implements the trait
+pub record Query : Type 0 where
+  pub subject : Term
+  pub bound : ℕ
+
+-- what a shape says of its type, where each shape has one
+abbrev pub IsShaped : (types : ℕ → Term) → Shape → Term → Type 0
+IsShaped types Parameter term = Unit {0}
+IsShaped types (Constructor c) term = term ≡ constructor c
+IsShaped types (Applied f x) term = term ≡ applied (types f) (types x)
+
+-- with these types for its shapes, the rule is one for the subject
+pub record IsInstance (rule : Rule) (types : ℕ → Term) (subject : Term) : Type 0 where
+  pub shaped : (place : ℕ) (shape : Shape) → slice_get rule.shapes.items place ≡ Some shape →
+      IsShaped types shape (types place)
+  pub is_head : types rule.head ≡ subject
+
+-- the impls for types of the constructor
+abbrev pub impls_at : Rules → ℕ → List Listed
+impls_at rules c = option_map_or (λ k. k.impls.items) (slice_get rules.constructors.items c) List.[]
+
+-- a rule of the trait for types of the constructor: an impl for them or for all types, or, where the trait is an auto trait and no
+-- impl of it for them stands in the way, the one by their fields
+pub data Gives (rules : Rules) (bound c : ℕ) (rule : Rule) : Type 0 where
+  pub by_impl : (listed : Listed) → Contains (impls_at rules c) listed → listed.bound ≡ bound → listed.rule ≡ Some rule →
+      Gives rules bound c rule
+  pub by_blanket : IsSomeAnd (slice_get rules.traits.items bound) (λ t. Contains t.blanket.items rule) →
+      Gives rules bound c rule
+  pub by_fields : IsSomeAnd (slice_get rules.traits.items bound) (λ t. t.is_auto ≡ true) →
+      ((listed : Listed) → Contains (impls_at rules c) listed → listed.bound ≡ bound → ⊥) →
+      IsSomeAnd (slice_get rules.constructors.items c) (λ k. k.fields ≡ Some rule) → Gives rules bound c rule
+
+-- how a trait asks what it needs
+abbrev pub kind_of : Rules → ℕ → PathKind
+kind_of rules bound = option_map_or (λ t. t.kind) (slice_get rules.traits.items bound) Inductive
+
+abbrev pub bound_of : ℕ → Bound → ℕ
+bound_of asked Same = asked
+bound_of asked (OfTrait bound) = bound
+
+-- what a clause asks
+abbrev pub asks : Rules → (ℕ → Term) → ℕ → Clause → Question Query
+asks rules types bound clause =
+    record { kind = kind_of rules bound; goal = record { subject = types clause.shape; bound = bound_of bound clause.bound } }
+
+-- some rule is one for the type, and all that it asks is held
+pub record ByRule (rules : Rules) (query : Query) (held : List (Question Query)) : Type 0 where
+  pub rule : Rule
+  pub types : ℕ → Term
+  pub gives : Gives rules query.bound (constructor_of query.subject) rule
+  pub is_instance : IsInstance rule types query.subject
+  pub all : (clause : Clause) → Contains rule.clauses.items clause → Contains held (asks rules types query.bound clause)
+
+-- whichever rule is one for the type, something that it asks failed
+abbrev pub AgainstRules : Rules → Query → List (Question Query) → Type 0
+AgainstRules rules query failed = (rule : Rule) (types : ℕ → Term) →
+    Gives rules query.bound (constructor_of query.subject) rule → IsInstance rule types query.subject →
+    Overlap (map (asks rules types query.bound) rule.clauses.items) failed
+
+-- The type implements the trait: there is a derivation by rules, which ends but where it goes round through a goal of a
+-- coinductive trait.
+abbrev pub Implements : Rules → Term → ℕ → Type 0
+Implements rules subject bound = IsDerivable (ByRule rules) (record { subject = subject; bound = bound })

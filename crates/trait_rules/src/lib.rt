@@ -1,0 +1,19 @@
+//! Types, traits and impls, and which types implement which traits, in words of these alone.
+//!
+//! A type is a constructor with arguments, as `Vec<i32>`, and stands here as a number: equal types have one number. An impl
+//! is a rule: the shape of the types that it is for, and what else has to hold of such a type.
+//!
+//! | File of `specs/` | Has |
+//! |---|---|
+//! | `Numbered` | what it is to have numbers |
+//! | `Terms` | types, and which one a number stands for |
+//! | `Implementing` | when a type implements a trait; it names no search |
+#![tactic(auto)]
+
+mod numbered;
+mod rules;
+mod terms;
+
+pub use numbered::{Key, Numbered};
+pub use rules::{Bound, Clause, Rule, Rules, Shape};
+pub use terms::{Made, Terms};
