@@ -39,11 +39,11 @@ impls_at rules c = option_map_or (λ k. k.impls.items) (slice_get rules.construc
 -- a rule of the trait for types of the constructor: an impl for them or for all types, or, where the trait is an auto trait and no
 -- impl of it for them stands in the way, the one by their fields
 pub data Gives (rules : Rules) (bound c : ℕ) (rule : Rule) : Type 0 where
-  pub by_impl : (listed : Listed) → Contains (impls_at rules c) listed → listed.bound ≡ bound → listed.rule ≡ Some rule →
+  by_impl : (listed : Listed) → Contains (impls_at rules c) listed → listed.bound ≡ bound → listed.rule ≡ Some rule →
       Gives rules bound c rule
-  pub by_blanket : IsSomeAnd (slice_get rules.traits.items bound) (λ t. Contains t.blanket.items rule) →
+  by_blanket : IsSomeAnd (slice_get rules.traits.items bound) (λ t. Contains t.blanket.items rule) →
       Gives rules bound c rule
-  pub by_fields : IsSomeAnd (slice_get rules.traits.items bound) (λ t. t.is_auto ≡ true) →
+  by_fields : IsSomeAnd (slice_get rules.traits.items bound) (λ t. t.is_auto ≡ true) →
       ((listed : Listed) → Contains (impls_at rules c) listed → listed.bound ≡ bound → ⊥) →
       IsSomeAnd (slice_get rules.constructors.items c) (λ k. k.fields ≡ Some rule) → Gives rules bound c rule
 

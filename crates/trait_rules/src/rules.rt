@@ -1,6 +1,4 @@
 //! Rules: impls, and the types of which others consist.
-ghost use Rattle.std.specs.Prelude.{◌≡◌, IfOk};
-ghost use Rattle.std.specs.Option.{option_copied};
 
 use search_context::context::NoMemory;
 use search_context::path::PathKind;
