@@ -10,6 +10,7 @@
 //! | `Implementing` | when a type implements a trait; it names no search |
 #![tactic(auto)]
 
+mod given;
 mod made;
 mod numbered;
 mod rules;
