@@ -50,7 +50,8 @@ impl<K: Key> Numbered<K> {
 
     /// How many values there are.
     pub fn len(&self) -> usize
-        ensures { result ≡ length self.now }
+        ensures len { result ≡ length self.now }
+        ensures once { IsOnce self.now }
     {
         self.keys.len()
     }

@@ -41,7 +41,9 @@ impl Terms {
 
     /// How many types there are.
     pub fn len(&self) -> usize
-        ensures { result ≡ length self.now }
+        ensures len { result ≡ length self.now }
+        ensures once { IsOnce self.now }
+        ensures first { ArePartsFirst self.now }
     {
         self.made.len()
     }

@@ -1,0 +1,67 @@
+-- What is known of a goal, in words of rules and types.
+use Rattle.std.specs.Prelude.{◌≡◌, ℕ, List, map, slice_get, Contains, Option, Some}
+use Rattle.trait_rules.specs.Implementing.{Gives, bound_of}
+use Rattle.trait_rules.specs.declared.rules.Clause.{Clause}
+use Rattle.trait_goals.specs.Below.{IsInstance, Made, Rule, Rules, Stands, Term, constructor_of}
+use Rattle.trait_goals.specs.declared.asked.Asked.{Asked}
+use Rattle.trait_goals.specs.declared.asked.Candidate.{Candidate}
+use Rattle.trait_goals.specs.declared.asked.Candidates.{Candidates}
+
+-- the goal of this number asks whether the type implements the trait
+pub record IsAsked (made : List Made) (asked : List Asked) (number : ℕ) (term : Term) (bound : ℕ) : Type 0 where
+  pub entry : Asked
+  pub at : slice_get asked number ≡ Some entry
+  pub stands : Stands made entry.subject term
+  pub same_bound : entry.bound ≡ bound
+
+-- some goal of these asks what the clause of a rule says, where the rule's shapes have these types
+pub record IsAskedBy (made : List Made) (asked : List Asked) (bound : ℕ) (types : ℕ → Term) (questions : List ℕ) (clause : Clause)
+    : Type 0 where
+  pub number : ℕ
+  pub is_question : Contains questions number
+  pub is_asked : IsAsked made asked number (types clause.shape) (bound_of bound clause.bound)
+
+-- some clause of the rule says what the goal asks
+pub record IsOfClause (made : List Made) (asked : List Asked) (rule : Rule) (bound : ℕ) (types : ℕ → Term) (number : ℕ) : Type 0 where
+  pub clause : Clause
+  pub is_clause : Contains rule.clauses.items clause
+  pub is_asked : IsAsked made asked number (types clause.shape) (bound_of bound clause.bound)
+
+-- the goals ask what the rule asks of the type, for which it is one
+pub record IsCandidate (made : List Made) (asked : List Asked) (rule : Rule) (bound : ℕ) (term : Term) (questions : List ℕ)
+    : Type 0 where
+  pub types : ℕ → Term
+  pub is_instance : IsInstance rule types term
+  pub one_instance : (others : ℕ → Term) → IsInstance rule others term → (clause : Clause) → Contains rule.clauses.items clause →
+      others clause.shape ≡ types clause.shape
+  pub each : (clause : Clause) → Contains rule.clauses.items clause → IsAskedBy made asked bound types questions clause
+  pub only : (number : ℕ) → Contains questions number → IsOfClause made asked rule bound types number
+
+pub record HasRule (rules : Rules) (made : List Made) (asked : List Asked) (bound : ℕ) (term : Term) (questions : List ℕ)
+    : Type 0 where
+  pub rule : Rule
+  pub gives : Gives rules bound (constructor_of term) rule
+  pub is_candidate : IsCandidate made asked rule bound term questions
+
+pub record HasCandidate (made : List Made) (asked : List Asked) (rule : Rule) (bound : ℕ) (term : Term)
+    (candidates : List (List ℕ)) : Type 0 where
+  pub questions : List ℕ
+  pub is_among : Contains candidates questions
+  pub is_candidate : IsCandidate made asked rule bound term questions
+
+-- each candidate is by a rule, and each rule that is one for the type has a candidate
+pub record Covers (rules : Rules) (made : List Made) (asked : List Asked) (bound : ℕ) (term : Term) (candidates : List (List ℕ))
+    : Type 0 where
+  pub each : (questions : List ℕ) → Contains candidates questions → HasRule rules made asked bound term questions
+  pub all : (rule : Rule) (types : ℕ → Term) → Gives rules bound (constructor_of term) rule → IsInstance rule types term →
+      HasCandidate made asked rule bound term candidates
+
+-- the goals that each candidate asks
+abbrev pub lists_of : Candidates → List (List ℕ)
+lists_of candidates = map (λ c. c.questions.items) candidates.all.items
+
+-- what is known of goals is right
+pub record AreRight (rules : Rules) (made : List Made) (asked : List Asked) (known : List (Option Candidates)) : Type 0 where
+  pub right : (number : ℕ) (entry : Asked) (candidates : Candidates) → slice_get asked number ≡ Some entry →
+      slice_get known number ≡ Some (Some candidates) → (term : Term) → Stands made entry.subject term →
+      Covers rules made asked entry.bound term (lists_of candidates)

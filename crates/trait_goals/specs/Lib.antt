@@ -1,0 +1,4 @@
+pub mod Below
+pub mod Instances
+pub mod Finding
+pub mod Known

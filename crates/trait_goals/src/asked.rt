@@ -1,0 +1,31 @@
+//! What goals ask, and what they are asked by.
+ghost use Rattle.std.specs.Prelude.{◌+◌, ◌<◌, ◌^◌, vec_len};
+
+use trait_rules::Key;
+
+/// The question whether the type of this number implements the trait of this number.
+#[derive(Clone, Copy, Debug, PartialEq, Eq, Hash, Drop)]
+pub struct Asked {
+    pub subject: usize,
+    pub bound: usize,
+}
+
+impl Key for Asked {
+    ghost use Rattle.std.proofs.Common.{rules};
+
+    ghost same_key = { Prim.search rules };
+}
+
+/// The goals that a rule asks, by their numbers. There are fewer than 2 to the power 32.
+#[derive(Debug, Drop)]
+pub struct Candidate {
+    pub questions: Vec<usize>,
+    ghost few: { vec_len questions + 1 < 2 ^ 32 },
+}
+
+/// The candidates of a goal, of which there are fewer than 2 to the power 32.
+#[derive(Debug, Drop)]
+pub struct Candidates {
+    pub all: Vec<Candidate>,
+    ghost few: { vec_len all + 1 < 2 ^ 32 },
+}

@@ -1,0 +1,19 @@
+//! Goals of traits: whether a type implements a trait, as a goal with candidates.
+//!
+//! A goal has a number, and so has its type. Its candidates are the rules that are for its type, and each asks the goals of its
+//! clauses, with the types that stand in the rule's shapes. What a goal asks may be new, so goals are made before they are asked:
+//! as many as are wanted, and where goals never end, some are left unknown, and say maybe.
+//!
+//! | File of `specs/` | Has |
+//! |---|---|
+//! | `Instances` | the types that stand in the shapes of a rule |
+//! | `Known` | what is known of a goal, in words of rules and types |
+#![tactic(auto)]
+
+mod asked;
+mod goals;
+mod instance;
+
+pub use asked::{Asked, Candidate, Candidates};
+pub use goals::Goals;
+pub use instance::{Found, find_instance};
