@@ -1,8 +1,11 @@
 -- What is known of a goal, in words of rules and types.
-use Rattle.std.specs.Prelude.{◌≡◌, ℕ, List, map, slice_get, Contains, Option, Some}
-use Rattle.trait_rules.specs.Implementing.{Gives, bound_of}
+use Rattle.std.specs.Prelude.{◌≡◌, ◌<◌, ℕ, List, length, map, slice_get, Contains, Option, Some, None}
+use Rattle.std.specs.Option.{option_map_or, unwrap_or}
+use Rattle.path_kinds.specs.declared.path.PathKind.{PathKind}
+use Rattle.path_kinds.specs.declared.path.PathKind.TheVariants.{Inductive}
+use Rattle.trait_rules.specs.Implementing.{Gives, bound_of, kind_of}
 use Rattle.trait_rules.specs.declared.rules.Clause.{Clause}
-use Rattle.trait_goals.specs.Below.{IsInstance, Made, Rule, Rules, Stands, Term, constructor_of}
+use Rattle.trait_goals.specs.Below.{ArePartsFirst, IsInstance, Made, Rule, Rules, Stands, Term, constructor_of}
 use Rattle.trait_goals.specs.declared.asked.Asked.{Asked}
 use Rattle.trait_goals.specs.declared.asked.Candidate.{Candidate}
 use Rattle.trait_goals.specs.declared.asked.Candidates.{Candidates}
@@ -60,8 +63,25 @@ pub record Covers (rules : Rules) (made : List Made) (asked : List Asked) (bound
 abbrev pub lists_of : Candidates → List (List ℕ)
 lists_of candidates = map (λ c. c.questions.items) candidates.all.items
 
+-- what is known of goals
+pub record Table : Type 0 where
+  pub rules : Rules
+  pub made : List Made
+  pub asked : List Asked
+  pub known : List (Option Candidates)
+
 -- what is known of goals is right
-pub record AreRight (rules : Rules) (made : List Made) (asked : List Asked) (known : List (Option Candidates)) : Type 0 where
-  pub right : (number : ℕ) (entry : Asked) (candidates : Candidates) → slice_get asked number ≡ Some entry →
-      slice_get known number ≡ Some (Some candidates) → (term : Term) → Stands made entry.subject term →
-      Covers rules made asked entry.bound term (lists_of candidates)
+pub record AreRight (table : Table) : Type 0 where
+  pub right : (number : ℕ) (entry : Asked) (candidates : Candidates) → slice_get table.asked number ≡ Some entry →
+      slice_get table.known number ≡ Some (Some candidates) → (term : Term) → Stands table.made entry.subject term →
+      Covers table.rules table.made table.asked entry.bound term (lists_of candidates)
+  pub first : ArePartsFirst table.made
+  pub inside : (number : ℕ) (entry : Asked) → slice_get table.asked number ≡ Some entry → entry.subject < length table.made
+
+-- the candidates of a goal, if they are known
+abbrev pub candidates_at : Table → ℕ → Option Candidates
+candidates_at table goal = unwrap_or (slice_get table.known goal) None
+
+-- how a goal asks
+abbrev pub kind_at : Table → ℕ → PathKind
+kind_at table goal = option_map_or (λ a. kind_of table.rules a.bound) (slice_get table.asked goal) Inductive
