@@ -1,2 +1,4 @@
 pub mod Matching
 pub mod Completing
+pub mod Clauses
+pub mod Grown

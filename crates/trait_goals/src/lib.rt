@@ -12,8 +12,11 @@
 
 mod asked;
 mod goals;
+mod growing;
 mod instance;
+mod trying;
 
 pub use asked::{Asked, Candidate, Candidates};
 pub use goals::Goals;
 pub use instance::{Found, find_instance};
+pub use trying::{Tried, try_rule};
