@@ -2,3 +2,4 @@ pub mod Below
 pub mod Instances
 pub mod Finding
 pub mod Known
+pub mod Rule
