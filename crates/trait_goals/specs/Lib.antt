@@ -3,3 +3,4 @@ pub mod Instances
 pub mod Finding
 pub mod Known
 pub mod Trying
+pub mod Rule

@@ -8,15 +8,18 @@
 //! |---|---|
 //! | `Instances` | the types that stand in the shapes of a rule |
 //! | `Known` | what is known of a goal, in words of rules and types |
+//! | `Rule` | the candidates of a goal as a search takes them |
 #![tactic(auto)]
 
 mod asked;
+mod delegate;
 mod goals;
 mod growing;
 mod instance;
 mod trying;
 
 pub use asked::{Asked, Candidate, Candidates};
+pub use delegate::{GoalsDelegate, GoalsOf, LendsGoals};
 pub use goals::Goals;
 pub use instance::{Found, find_instance};
 pub use trying::{Tried, try_rule};

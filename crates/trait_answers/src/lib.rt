@@ -1,0 +1,17 @@
+//! Which types implement which traits, in words of types and rules alone.
+//!
+//! A goal is told by its number among the goals of `trait_goals`. A yes says that its type implements its trait, and a no that it
+//! does not, by the rules that were given. A goal whose candidates are not known says maybe, and so may one that asks it. After
+//! that `was_wanted` says for which goals it would have helped to know the candidates: make these known, and ask anew.
+//!
+//! | File of `specs/` | Has |
+//! |---|---|
+//! | `Answered` | what a yes and a no say of a goal |
+//! | `Asking` | the goals that are asked, and which of them were wanted |
+#![tactic(auto)]
+
+mod answers;
+mod ask;
+
+pub use answers::{Answered, Answers};
+pub use delegate_parts::Outcome;
