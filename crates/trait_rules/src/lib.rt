@@ -15,5 +15,5 @@ mod rules;
 mod terms;
 
 pub use numbered::{Key, Numbered};
-pub use rules::{Bound, Clause, Rule, Rules, Shape};
+pub use rules::{Bound, Clause, Constructor, Listed, Rule, Rules, Shape, Trait};
 pub use terms::{Made, Terms};
