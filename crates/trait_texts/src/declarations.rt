@@ -1,6 +1,8 @@
 //! What texts declare and ask.
 ghost use Rattle.std.specs.Prelude.{IfOk};
 
+use crate::cursor::Cursor;
+use crate::reader::Reader;
 use crate::refusal::ReadFault;
 use crate::spelling::Spelling;
 use std::alloc::Global;
@@ -41,6 +43,26 @@ pub fn read<'a>(
     sources: &[Source<'a>],
     as_rustc: bool,
 ) -> Result<Declarations<'a>, ReadFault<'a>> {
-    let _ = (alloc, sources, as_rustc);
-    Err(ReadFault::Memory)
+    let nothing = Cursor::new(Source {
+        name: b"",
+        text: b"",
+    })?;
+    let mut reader = Reader::new(alloc, nothing, as_rustc)?;
+    for source in sources {
+        reader.cursor = Cursor::new(*source)?;
+        reader.declare_names()?;
+    }
+    for source in sources {
+        reader.cursor = Cursor::new(*source)?;
+        reader.read_items()?;
+    }
+    reader.implement_objects()?;
+    reader.ask_all()?;
+    Ok(Declarations {
+        rules: reader.program.rules,
+        terms: reader.program.terms,
+        questions: reader.program.questions,
+        depth: reader.depth,
+        spelling: reader.spelling,
+    })
 }

@@ -6,9 +6,19 @@
 //! | `WellFormed` | what the reading promises of rules, types and questions |
 #![tactic(auto)]
 
+mod asking;
+mod cursor;
 mod declarations;
+mod draft;
+mod items;
+mod naming;
+mod program;
+mod reader;
 mod refusal;
+mod scope;
 mod spelling;
+mod token;
+mod types;
 
 pub use declarations::{Declarations, Question, Source, read};
 pub use refusal::{Problem, ReadFault, Refusal};
