@@ -73,11 +73,11 @@ impl<'a> Spelling<'a> {
                 Some(Piece::Text(piece)) => text.extend_from_slice(piece)?,
                 Some(Piece::Type(number)) => {
                     let spread = spread_of(alloc, terms, number)?;
-                    self.lay_out(&mut pieces, &spread)?;
+                    self.lay_out(&mut pieces, terms, &spread)?;
                 }
                 Some(Piece::Marked(number)) => {
                     let spread = spread_of(alloc, terms, number)?;
-                    self.lay_out_marked(&mut pieces, &spread)?;
+                    self.lay_out_marked(&mut pieces, terms, &spread)?;
                 }
             }
         }
@@ -85,7 +85,12 @@ impl<'a> Spelling<'a> {
     }
 
     // Puts what the type consists of on the pieces, the last one first.
-    fn lay_out<'b>(&'b self, pieces: &mut Vec<Piece<'b>>, spread: &Spread) -> Result<(), NoMemory> {
+    fn lay_out<'b>(
+        &'b self,
+        pieces: &mut Vec<Piece<'b>>,
+        terms: &Terms,
+        spread: &Spread,
+    ) -> Result<(), NoMemory> {
         let arguments = spread.arguments.as_slice();
         match self.forms.get(spread.constructor) {
             None => {}
@@ -118,16 +123,33 @@ impl<'a> Spelling<'a> {
                 lay_out_list(pieces, arguments)?;
                 pieces.push(Piece::Text(b"("))?;
             }
-            Some(Form::Function) => lay_out_function(pieces, arguments)?,
+            Some(Form::Function) => {
+                let is_unit = match arguments.first() {
+                    Some(last) => self.is_unit(terms, *last),
+                    None => false,
+                };
+                lay_out_function(pieces, arguments, is_unit)?;
+            }
             Some(Form::Dyn(names)) => lay_out_dyn(pieces, names.as_slice())?,
         }
         Ok(())
+    }
+
+    // Whether the type is `()`.
+    fn is_unit(&self, terms: &Terms, number: usize) -> bool {
+        match terms.get(number) {
+            Some(Made::Constructor(constructor)) => {
+                matches!(self.forms.get(constructor), Some(Form::Tuple))
+            }
+            _ => false,
+        }
     }
 
     // The same, in parentheses where the type has several bounds.
     fn lay_out_marked<'b>(
         &'b self,
         pieces: &mut Vec<Piece<'b>>,
+        terms: &Terms,
         spread: &Spread,
     ) -> Result<(), NoMemory> {
         let has_several = match self.forms.get(spread.constructor) {
@@ -137,7 +159,7 @@ impl<'a> Spelling<'a> {
         if has_several {
             pieces.push(Piece::Text(b")"))?;
         }
-        self.lay_out(pieces, spread)?;
+        self.lay_out(pieces, terms, spread)?;
         if has_several {
             pieces.push(Piece::Text(b"("))?;
         }
@@ -188,10 +210,19 @@ fn lay_out_marked_list<'b>(
     Ok(())
 }
 
-fn lay_out_function<'b>(pieces: &mut Vec<Piece<'b>>, arguments: &[usize]) -> Result<(), NoMemory> {
+// The result comes first. It is left out where it is `()`.
+fn lay_out_function<'b>(
+    pieces: &mut Vec<Piece<'b>>,
+    arguments: &[usize],
+    is_unit: bool,
+) -> Result<(), NoMemory> {
     if let Some((last, arguments)) = arguments.split_first() {
-        pieces.push(Piece::Marked(*last))?;
-        pieces.push(Piece::Text(b") -> "))?;
+        if is_unit {
+            pieces.push(Piece::Text(b")"))?;
+        } else {
+            pieces.push(Piece::Marked(*last))?;
+            pieces.push(Piece::Text(b") -> "))?;
+        }
         lay_out_list(pieces, arguments)?;
         pieces.push(Piece::Text(b"fn("))?;
     }
