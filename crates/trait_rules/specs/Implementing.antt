@@ -1,6 +1,8 @@
 -- When a type implements a trait. Traits and constructors are told by their numbers, their places in the lists.
-use Rattle.std.specs.Prelude.{◌≡◌, ℕ, true, List, map, slice_get, Contains, Some}
-use Rattle.std.specs.Option.{IsSomeAnd, option_map_or}
+use Rattle.std.specs.Prelude.{◌≡◌, ◌==◌, ◌&&◌, ℕ, Bool, false, not, if◌then◌else◌, List, [], ◌∷◌, ◌++◌, map, slice_get}
+use Rattle.std.specs.Prelude.{Contains, Option, Some, None}
+use Rattle.std.specs.List.{list_any}
+use Rattle.std.specs.Option.{option_map_or}
 use Rattle.path_kinds.specs.declared.path.PathKind.{PathKind}
 use Rattle.path_kinds.specs.declared.path.PathKind.TheVariants.{Inductive}
 use Rattle.search_context.specs.Question.{Overlap, Question}
@@ -34,18 +36,36 @@ pub record IsInstance (rule : Rule) (types : ℕ → Term) (subject : Term) : Ty
 
 -- the impls for types of the constructor
 abbrev pub impls_at : Rules → ℕ → List Listed
-impls_at rules c = option_map_or (λ k. k.impls.items) (slice_get rules.constructors.items c) List.[]
+impls_at rules c = option_map_or (λ k. k.impls.items) (slice_get rules.constructors.items c) []
 
--- a rule of the trait for types of the constructor: an impl for them or for all types, or, where the trait is an auto trait and no
--- impl of it for them stands in the way, the one by their fields
-pub data Gives (rules : Rules) (bound c : ℕ) (rule : Rule) : Type 0 where
-  pub by_impl : (listed : Listed) → Contains (impls_at rules c) listed → listed.bound ≡ bound → listed.rule ≡ Some rule →
-      Gives rules bound c rule
-  pub by_blanket : IsSomeAnd (slice_get rules.traits.items bound) (λ t. Contains t.blanket.items rule) →
-      Gives rules bound c rule
-  pub by_fields : IsSomeAnd (slice_get rules.traits.items bound) (λ t. t.is_auto ≡ true) →
-      ((listed : Listed) → Contains (impls_at rules c) listed → listed.bound ≡ bound → ⊥) →
-      IsSomeAnd (slice_get rules.constructors.items c) (λ k. k.fields ≡ Some rule) → Gives rules bound c rule
+-- the rule of an impl, if it is one of the trait, and not a negative one
+abbrev pub impl_rule : ℕ → Listed → Option Rule
+impl_rule bound listed = if listed.bound == bound then listed.rule else None
+
+-- the impls of the trait for any type
+abbrev pub blanket_at : Rules → ℕ → List Rule
+blanket_at rules bound = option_map_or (λ t. t.blanket.items) (slice_get rules.traits.items bound) []
+
+abbrev pub is_auto : Rules → ℕ → Bool
+is_auto rules bound = option_map_or (λ t. t.is_auto) (slice_get rules.traits.items bound) false
+
+-- the rule by the fields of a constructor's types
+abbrev pub fields_at : Rules → ℕ → Option Rule
+fields_at rules c = option_map_or (λ k. k.fields) (slice_get rules.constructors.items c) None
+
+-- the rule by fields, if the trait is an auto trait, and no impl of it for the constructor stands in the way
+abbrev pub fields_rule : Rules → (bound c : ℕ) → Option Rule
+fields_rule rules bound c =
+    if is_auto rules bound && not (list_any (λ l. l.bound == bound) (impls_at rules c))
+    then fields_at rules c else None
+
+-- the rules of the trait for types of the constructor, in the order in which they are tried
+abbrev pub rules_for : Rules → (bound c : ℕ) → List (Option Rule)
+rules_for rules bound c =
+    map (impl_rule bound) (impls_at rules c) ++ map (λ r. Some r) (blanket_at rules bound) ++ fields_rule rules bound c ∷ []
+
+abbrev pub Gives : Rules → (bound c : ℕ) → Rule → Type 0
+Gives rules bound c rule = Contains (rules_for rules bound c) (Some rule)
 
 -- how a trait asks what it needs
 abbrev pub kind_of : Rules → ℕ → PathKind

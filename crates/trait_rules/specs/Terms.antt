@@ -1,12 +1,12 @@
 -- Types, and which one a number stands for.
 use Rattle.std.specs.Prelude.{◌≡◌, ◌<◌, ℕ, List, slice_get, Some}
-pub use Rattle.trait_rules.specs.declared.terms.Made.{Made}
-pub use Rattle.trait_rules.specs.declared.terms.Made.TheVariants.{Applied, Constructor}
+pub use Rattle.trait_rules.specs.declared.made.Made.{Made}
+pub use Rattle.trait_rules.specs.declared.made.Made.TheVariants.{Applied, Constructor}
 
 -- a type: a constructor, or a type with one argument more
 pub data Term : Type 0 where
-  pub constructor : ℕ → Term
-  pub applied : Term → Term → Term
+  constructor : ℕ → Term
+  applied : Term → Term → Term
 
 -- its outermost constructor
 abbrev pub constructor_of : Term → ℕ
@@ -15,8 +15,8 @@ constructor_of (applied f x) = constructor_of f
 
 -- the number stands for the type
 pub data Stands (made : List Made) : ℕ → Term → Type 0 where
-  pub constructor_at : {number c : ℕ} → slice_get made number ≡ Some (Constructor c) → Stands made number (constructor c)
-  pub applied_at : {number f x : ℕ} {g y : Term} → slice_get made number ≡ Some (Applied f x) →
+  constructor_at : {number c : ℕ} → slice_get made number ≡ Some (Constructor c) → Stands made number (constructor c)
+  applied_at : {number f x : ℕ} {g y : Term} → slice_get made number ≡ Some (Applied f x) →
       Stands made f g → Stands made x y → Stands made number (applied g y)
 
 -- the parts of a type have lesser numbers

@@ -10,10 +10,13 @@
 //! | `Implementing` | when a type implements a trait; it names no search |
 #![tactic(auto)]
 
+mod given;
+mod made;
 mod numbered;
 mod rules;
 mod terms;
 
+pub use made::Made;
 pub use numbered::{Key, Numbered};
 pub use rules::{Bound, Clause, Constructor, Listed, Rule, Rules, Shape, Trait};
-pub use terms::{Made, Terms};
+pub use terms::Terms;

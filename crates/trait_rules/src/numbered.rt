@@ -1,7 +1,7 @@
 //! Values that each have one number.
 ghost use Rattle.std.specs.Prelude.{◌≡◌, [], length, IfOk, OnErr, slice_get, ◌↔◌, ℕ, Some};
 ghost use Rattle.std.specs.Option.{option_copied};
-ghost use Rattle.trait_rules.specs.Numbered.{Keeps};
+ghost use Rattle.trait_rules.specs.Numbered.{Grows, Keeps};
 
 use search_context::context::NoMemory;
 use std::alloc::Global;
@@ -74,6 +74,7 @@ impl<K: Key> Numbered<K> {
     pub fn intern(&mut self, key: K) -> Result<usize, NoMemory>
         ensures number { IfOk result (λ number. slice_get self.new number ≡ Some key) }
         ensures keeps { Keeps self.old self.new }
+        ensures grows { Grows self.old self.new key }
         ensures err { OnErr result (self.new ≡ self.old) }
     {
         if let Some(number) = self.number(key) {

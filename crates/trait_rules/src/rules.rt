@@ -1,10 +1,6 @@
 //! Rules: impls, and the types of which others consist.
-ghost use Rattle.std.specs.Prelude.{◌≡◌, IfOk};
-ghost use Rattle.std.specs.Option.{option_copied};
 
-use search_context::context::NoMemory;
 use search_context::path::PathKind;
-use std::alloc::Global;
 
 /// A type in a rule, whose parameters stand for any types. Each shape has a number, its place in the rule, and equal parameters
 /// have one.

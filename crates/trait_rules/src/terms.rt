@@ -3,25 +3,11 @@ ghost use Rattle.std.specs.Prelude.{◌≡◌, ◌<◌, [], length, IfOk, IfSome
 ghost use Rattle.trait_rules.specs.Numbered.{IsOnce, Keeps};
 ghost use Rattle.trait_rules.specs.Terms.{ArePartsFirst, Stands, Term, constructor_of};
 
-use crate::numbered::{Key, Numbered};
+use crate::made::Made;
+use crate::numbered::Numbered;
 use search_context::context::NoMemory;
 use std::alloc::Global;
 use std::marker::Model;
-
-/// How a type is made.
-#[derive(Clone, Copy, Debug, PartialEq, Eq, Hash, Drop)]
-pub enum Made {
-    /// A constructor, by its number, without arguments.
-    Constructor(usize),
-    /// A type with one argument more, both by their numbers: `Map<K, V>` is `Map<K>` with `V`.
-    Applied(usize, usize),
-}
-
-impl Key for Made {
-    ghost use Rattle.std.proofs.Common.{rules};
-
-    ghost same_key = { Prim.search rules };
-}
 
 /// Types, each with one number. The parts of a type come before it.
 #[derive(Drop)]
@@ -31,10 +17,10 @@ pub struct Terms {
 
 impl Model for Terms {
     ghost use Rattle.std.specs.Prelude.{List};
-    ghost use Rattle.trait_rules.specs.declared.terms.Made as made;
+    ghost use Rattle.trait_rules.specs.declared.made.Made.{Made};
     ghost use Rattle.trait_rules.specs.Terms.{ArePartsFirst};
 
-    ghost Value = { List made.Made };
+    ghost Value = { List Made };
 
     ghost view = { λ s. s.made };
 
@@ -42,7 +28,7 @@ impl Model for Terms {
 }
 
 impl Terms {
-    ghost use Rattle.trait_rules.specs.declared.terms.Made.TheVariants.{Constructor, Applied};
+    ghost use Rattle.trait_rules.specs.declared.made.Made.TheVariants.{Constructor, Applied};
 
     /// No types. It takes no memory yet.
     pub fn new(alloc: Global) -> Terms
