@@ -1,5 +1,6 @@
 //! What texts declare and ask.
-ghost use Rattle.std.specs.Prelude.{IfOk};
+ghost use Rattle.std.specs.Prelude.{IfOk, length};
+ghost use Rattle.trait_texts.specs.WellFormed.{AreAsked, AreSound};
 
 use crate::cursor::Cursor;
 use crate::reader::Reader;
@@ -42,7 +43,11 @@ pub fn read<'a>(
     alloc: Global,
     sources: &[Source<'a>],
     as_rustc: bool,
-) -> Result<Declarations<'a>, ReadFault<'a>> {
+) -> Result<Declarations<'a>, ReadFault<'a>>
+    ensures rules { IfOk result (λ told. AreSound told.rules) }
+    ensures questions { IfOk result (λ told.
+        AreAsked (length told.rules.traits.items) (length told.terms) told.questions.items) }
+{
     let nothing = Cursor::new(Source {
         name: b"",
         text: b"",
@@ -58,10 +63,11 @@ pub fn read<'a>(
     }
     reader.implement_objects()?;
     reader.ask_all()?;
+    let (rules, terms, questions) = reader.program.into_parts();
     Ok(Declarations {
-        rules: reader.program.rules,
-        terms: reader.program.terms,
-        questions: reader.program.questions,
+        rules,
+        terms,
+        questions,
         depth: reader.depth,
         spelling: reader.spelling,
     })

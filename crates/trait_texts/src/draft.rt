@@ -1,8 +1,10 @@
 //! A rule in the making.
-ghost use Rattle.std.specs.Prelude.{◌≡◌, ◌<◌, ℕ, length, IfOk, IfSome, Some, slice_get};
+ghost use Rattle.std.specs.Prelude.{◌≡◌, ◌<◌, [], ◌∷◌, ◌++◌, length, IfOk, IfSome, OnOk, slice_get};
+ghost use Rattle.trait_texts.specs.WellFormed.{Each, HasPartsBefore, IsOutermost, IsWellFormed};
 
 use search_context::context::NoMemory;
 use std::alloc::Global;
+use std::marker::Model;
 use trait_rules::{Bound, Clause, Rule, Shape};
 
 /// The shapes and the clauses of a rule. Parameters come first, each once.
@@ -10,6 +12,16 @@ use trait_rules::{Bound, Clause, Rule, Shape};
 pub(crate) struct Draft {
     shapes: Vec<Shape>,
     clauses: Vec<Clause>,
+}
+
+impl Model for Draft {
+    ghost use Rattle.trait_texts.specs.WellFormed.{Drafted, IsDraft};
+
+    ghost Value = { Drafted };
+
+    ghost view = { λ d. record { shapes = d.shapes.items; clauses = d.clauses.items } };
+
+    ghost invariant = { λ d. IsDraft d.shapes.items d.clauses.items };
 }
 
 impl Draft {
@@ -30,27 +42,47 @@ impl Draft {
     }
 
     /// The shapes.
-    pub(crate) fn shapes(&self) -> &[Shape] {
+    pub(crate) fn shapes(&self) -> &[Shape]
+        ensures shapes { result.now ≡ self.now.shapes }
+        ensures parts_first { Each HasPartsBefore self.now.shapes }
+    {
         self.shapes.as_slice()
     }
 
+    // The shape of this number.
+    fn shape(&self, number: usize) -> Option<Shape>
+        ensures { result ≡ slice_get self.now.shapes number }
+    {
+        self.shapes.get(number).copied()
+    }
+
     /// The clauses.
-    pub(crate) fn clauses(&self) -> &[Clause] {
+    pub(crate) fn clauses(&self) -> &[Clause]
+        ensures { result.now ≡ self.now.clauses }
+    {
         self.clauses.as_slice()
+    }
+
+    // One more shape.
+    fn add(&mut self, shape: Shape) -> Result<usize, NoMemory>
+        requires { HasPartsBefore (length self.old.shapes) shape }
+        ensures number { IfOk result (λ number. number ≡ length self.old.shapes) }
+        ensures added { OnOk result (self.new.shapes ≡ self.old.shapes ++ shape ∷ []) }
+        ensures clauses { self.new.clauses ≡ self.old.clauses }
+    {
+        let number = self.shapes.len();
+        self.shapes.push(shape)?;
+        Ok(number)
     }
 
     /// One more parameter.
     pub(crate) fn parameter(&mut self) -> Result<usize, NoMemory> {
-        let number = self.shapes.len();
-        self.shapes.push(Shape::Parameter)?;
-        Ok(number)
+        self.add(Shape::Parameter)
     }
 
     /// A constructor without arguments.
     pub(crate) fn constructor(&mut self, constructor: usize) -> Result<usize, NoMemory> {
-        let number = self.shapes.len();
-        self.shapes.push(Shape::Constructor(constructor))?;
-        Ok(number)
+        self.add(Shape::Constructor(constructor))
     }
 
     /// A shape with one argument more. Both have to be there.
@@ -59,8 +91,7 @@ impl Draft {
         if shape >= number || argument >= number {
             return Err(NoMemory);
         }
-        self.shapes.push(Shape::Applied(shape, argument))?;
-        Ok(number)
+        self.add(Shape::Applied(shape, argument))
     }
 
     /// A constructor with these arguments.
@@ -86,13 +117,15 @@ impl Draft {
     }
 
     /// The outermost constructor of the shape, if it is no parameter.
-    pub(crate) fn outermost(&self, shape: usize) -> Option<usize> {
+    pub(crate) fn outermost(&self, shape: usize) -> Option<usize>
+        ensures { IfSome result (IsOutermost self.now.shapes shape) }
+    {
         let mut at = shape;
         for _ in 0..self.shapes.len() {
-            match self.shapes.get(at)? {
+            match self.shape(at)? {
                 Shape::Parameter => return None,
-                Shape::Constructor(constructor) => return Some(*constructor),
-                Shape::Applied(shape, _) => at = *shape,
+                Shape::Constructor(constructor) => return Some(constructor),
+                Shape::Applied(shape, _) => at = shape,
             }
         }
         None
@@ -119,14 +152,19 @@ impl Draft {
     }
 
     /// The rule for types of the shape `head`, which has to be there.
-    pub(crate) fn rule(self, head: usize) -> Result<Rule, NoMemory> {
-        if head >= self.shapes.len() {
+    pub(crate) fn rule(self, head: usize) -> Result<Rule, NoMemory>
+        ensures well_formed { IfOk result (λ rule. IsWellFormed rule) }
+        ensures shapes { IfOk result (λ rule. rule.shapes.items ≡ self.shapes) }
+        ensures head { IfOk result (λ rule. rule.head ≡ head) }
+    {
+        let Draft { shapes, clauses } = self;
+        if head >= shapes.len() {
             return Err(NoMemory);
         }
         Ok(Rule {
-            shapes: self.shapes,
+            shapes,
             head,
-            clauses: self.clauses,
+            clauses,
         })
     }
 }

@@ -170,8 +170,7 @@ impl<'a> Reader<'a> {
         for argument in 0..arguments {
             head = draft.applied(head, argument)?;
         }
-        self.program.set_fields(constructor, draft.rule(head)?);
-        Ok(())
+        self.program.set_fields(draft, head)
     }
 
     /// The number of the trait that the word names.

@@ -290,7 +290,7 @@ impl<'a> Reader<'a> {
             numbers.push(number)?;
             set = Some(self.set_with(set, number)?);
         }
-        let count = self.program.rules.constructors.len();
+        let count = self.program.constructor_count();
         let constructor = self.constructor(Key::Dyn(set.unwrap_or(0)))?;
         if constructor == count {
             self.objects.push(Object { constructor, traits: numbers })?;
