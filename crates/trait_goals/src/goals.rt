@@ -47,6 +47,13 @@ impl Goals {
         }
     }
 
+    /// The types of the goals.
+    pub fn terms(&self) -> &Terms
+        ensures { result.now ≡ self.now.made }
+    {
+        &self.terms
+    }
+
     /// How many goals there are.
     pub fn len(&self) -> usize
         ensures { result ≡ length self.now.asked }
