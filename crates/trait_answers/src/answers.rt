@@ -14,7 +14,8 @@ pub struct Answered {
     pub limits_met: bool,
 }
 
-/// Answers questions about the goals that an `L` lends, as `&Goals` does. What one question finds out is used in the next ones.
+/// Answers questions about the goals that an `L` lends, as `&Goals` does. What one question finds
+/// out is used in the next ones.
 #[derive(Drop)]
 pub struct Answers<L: LendsGoals> {
     pub(crate) cache: GlobalCache<GoalsDelegate<L>>,
