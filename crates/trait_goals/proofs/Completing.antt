@@ -38,7 +38,7 @@ still_made was made all more (Constructor c) number keeps k longer is = keeps.at
 still_made was made all more (Applied f x) number keeps k longer is =
     (is.0, (is.1.0, (k f is.0 is.1.1.0, (k x is.1.0 is.1.1.1.0, keeps.at number (MadeApplied is.0 is.1.0) is.1.1.1.1))))
 
-keeps_length : (was made : List Made) → Keeps was made → length was ≤ length made
+pub keeps_length : (was made : List Made) → Keeps was made → length was ≤ length made
 keeps_length was made keeps = by (length was) refl
   where
     last_there : (xs : List Made) (n : ℕ) → n < length xs → (x : Made) × (slice_get xs n ≡ Some x)
@@ -66,7 +66,7 @@ module _ (was made now : List Made) (rule : Rule) (found : List (Option ℕ)) (c
       more ≡ all ++ number ∷ [] → Keeps made now → IsMade now all shape number →
       IfSome noted (λ n. slice_get found (length all) ≡ Some (Some n)) →
       ((types : ℕ → Term) (term : Term) → AllTold made all types → IsShaped types shape term →
-          IfSome noted (λ n. Stands made n term) → Stands now number term) →
+      IfSome noted (λ n. Stands made n term) → Stands now number term) →
       AreCompleted was now rule found (count + 1) more
   completed_more done at is keeps new is_noted told = record {
     keeps = keeps_then done.keeps keeps;
@@ -92,10 +92,14 @@ module _ (was made now : List Made) (rule : Rule) (found : List (Option ℕ)) (c
             (w.0, (lengthens place w.0 w.1.0, still_made made now all more s w.0 keeps lengthens (keeps_length made now keeps) w.1.1))
         | inr last ↦
             let same : Some s ≡ Some shape = sym e ∙ subst (λ p. slice_get rule.shapes.items p ≡ Some shape) (sym last) at in
-            let ss : shape ≡ s = cc in
-            (number, (subst (λ l. slice_get l place ≡ Some number) (sym is) (at_end all number place (last ∙ sym done.is_count)),
-            subst (λ q. IsMade now more q number) ss
-            (still_made now now all more shape number (keeps_same now) lengthens (omega arith) new)))
+            let ss : shape ≡ s = cc in (
+              number,
+              (
+                subst (λ l. slice_get l place ≡ Some number) (sym is) (at_end all number place (last ∙ sym done.is_count)),
+                subst (λ q. IsMade now more q number) ss
+                    (still_made now now all more shape number (keeps_same now) lengthens (omega arith) new),
+              ),
+            )
       ]
         where
           split : (p : ℕ) → p < count + 1 → (p < count) ⊎ (p ≡ count)
@@ -116,6 +120,14 @@ module _ (was made now : List Made) (rule : Rule) (found : List (Option ℕ)) (c
           noted_stands None h = h
           noted_stands (Some m) h =
               stands_in done.keeps m (types place) (t.told place m (subst (λ p. slice_get found p ≡ Some (Some m)) (sym w.0) h))
+
+-- all shapes have a type
+pub all_made : (was made : List Made) (rule : Rule) (found : List (Option ℕ)) (count : ℕ) (all : List ℕ) →
+    AreCompleted was made rule found count all → length rule.shapes.items ≤ count → AreMade made rule.shapes.items all
+all_made was made rule found count all done past = record {
+  each = λ place shape e. let w = slice_get_within rule.shapes.items place shape e in
+      done.are_made.each place shape (within rule.shapes.items count place shape (omega (arith, w, past)) e);
+}
 
 -- the types of all shapes are those of an instance, and of each
 module _ (was made : List Made) (rule : Rule) (subject : ℕ) (all : List ℕ) (term : Term) (first : ArePartsFirst made)

@@ -3,7 +3,7 @@ use Rattle.std.proofs.Common.{◌≡◌, ◌<◌, ◌≤◌, ℕ, zero, suc, ◌
 use Rattle.std.proofs.Common.{refl, sym, ◌∙◌, ap, ap₂, subst, arith}
 use Rattle.std.proofs.Math.ListN.{set}
 use Rattle.std.specs.Prelude.{slice_get}
-use Rattle.std.specs.Option.{IfSome}
+use Rattle.std.specs.Option.{IfSome, IsSomeAnd}
 use Rattle.std.proofs.lemmas.Option.{slice_get_within}
 use Rattle.trait_rules.specs.Terms.{applied, applied_at, constructor, constructor_at}
 use Rattle.trait_rules.specs.declared.made.Made.TheVariants.{Applied as MadeApplied, Constructor as MadeConstructor}
@@ -14,7 +14,7 @@ use Rattle.trait_goals.specs.Below.{ArePartsFirst, IsInstance, IsOnce, IsShaped,
 use Rattle.trait_goals.specs.Instances.{AllTold, AreMade, AreTold, IsMade}
 
 -- what stands in a list with one place written
-in_set : {A : Type 0} (xs : List A) (i n : ℕ) (v x : A) → slice_get (set xs i v) n ≡ Some x
+pub in_set : {A : Type 0} (xs : List A) (i n : ℕ) (v x : A) → slice_get (set xs i v) n ≡ Some x
     → (slice_get xs n ≡ Some x) ⊎ ((n ≡ i) × (x ≡ v))
 in_set [] i n v x e = inl e
 in_set (y ∷ xs) zero zero v x e = inr (refl, cc)
@@ -113,7 +113,7 @@ pub new_applied : (was made : List Made) (all : List ℕ) (first second g y : �
     shape ≡ Applied first second → slice_get all first ≡ Some g → slice_get all second ≡ Some y → Keeps was made →
     IfSome found (λ number. slice_get made number ≡ Some (MadeApplied g y)) →
     IfSome found (λ number. (types : ℕ → Term) (term : Term) → AllTold was all types → IsShaped types shape term →
-        IfSome noted (λ n. Stands was n term) → Stands made number term)
+    IfSome noted (λ n. Stands was n term) → Stands made number term)
 new_applied was made all first second g y shape noted None is at_first at_second keeps made_so = made_so
 new_applied was made all first second g y shape noted (Some number) is at_first at_second keeps made_so =
     λ types term told shaped unused.
@@ -127,6 +127,11 @@ pub read_found : (xs ys : List (Option ℕ)) (place number : ℕ) (o : Option �
 read_found xs ys place number o same is some =
     subst (λ l. slice_get l place ≡ Some (Some number)) same (sym is ∙ ap Some some)
 
-pub read_shape : (xs ys : List Shape) (place : ℕ) (shape : Shape) → ys ≡ xs → Some shape ≡ slice_get ys place →
-    slice_get xs place ≡ Some shape
-read_shape xs ys place shape same is = subst (λ l. slice_get l place ≡ Some shape) same (sym is)
+pub some_so : {A : Type 0} (P : A → Type 0) (o : Option A) (x : A) → o ≡ Some x → IfSome o P → P x
+some_so P o x is h = let s : IfSome (Some x) P = subst (λ p. IfSome p P) is h in s
+
+pub found_so : {A : Type 0} (P : A → Type 0) (o : Option A) (x : A) → o ≡ Some x → IsSomeAnd o P → P x
+found_so P o x is h = let s : IsSomeAnd (Some x) P = subst (λ p. IsSomeAnd p P) is h in s
+
+pub read_at : {A : Type 0} (xs ys : List A) (place : ℕ) (x : A) → ys ≡ xs → Some x ≡ slice_get ys place → slice_get xs place ≡ Some x
+read_at {A} xs ys place x same is = subst (λ (l : List A). slice_get l place ≡ Some x) same (sym is)

@@ -75,6 +75,8 @@ pub record AreRight (table : Table) : Type 0 where
   pub right : (number : ℕ) (entry : Asked) (candidates : Candidates) → slice_get table.asked number ≡ Some entry →
       slice_get table.known number ≡ Some (Some candidates) → (term : Term) → Stands table.made entry.subject term →
       Covers table.rules table.made table.asked entry.bound term (lists_of candidates)
+  pub each : (number : ℕ) (candidates : Candidates) → slice_get table.known number ≡ Some (Some candidates) →
+      (entry : Asked) × (slice_get table.asked number ≡ Some entry)
   pub first : ArePartsFirst table.made
   pub inside : (number : ℕ) (entry : Asked) → slice_get table.asked number ≡ Some entry → entry.subject < length table.made
 

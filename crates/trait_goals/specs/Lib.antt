@@ -2,4 +2,5 @@ pub mod Below
 pub mod Instances
 pub mod Finding
 pub mod Known
+pub mod Trying
 pub mod Rule

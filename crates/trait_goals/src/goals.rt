@@ -1,10 +1,14 @@
 //! Goals with their numbers, and what is known of them.
-ghost use Rattle.std.specs.Prelude.{◌≡◌, slice_get};
+ghost use Rattle.std.specs.Prelude.{◌≡◌, length, slice_get, IfOk, IfSome, Some};
 ghost use Rattle.std.specs.Option.{option_copied};
 ghost use Rattle.trait_goals.specs.Known.{AreRight, candidates_at, kind_at};
+ghost use Rattle.trait_goals.specs.Trying.{Extends};
 
 use crate::asked::{Asked, Candidates};
+use crate::growing::{find_candidates, note_known};
+use search_context::context::NoMemory;
 use search_context::path::PathKind;
+use std::alloc::Global;
 use std::marker::Model;
 use trait_rules::{Numbered, Rules, Terms};
 
@@ -28,6 +32,58 @@ impl Model for Goals {
 }
 
 impl Goals {
+    /// No goals yet, of these types by these rules. It takes no memory.
+    pub fn new(alloc: Global, rules: Rules, terms: Terms) -> Goals
+        ensures rules { result.rules ≡ rules }
+        ensures made { result.made ≡ terms }
+    {
+        // What is asked of it is that the parts of a type come first.
+        let _count = terms.len();
+        Goals {
+            rules,
+            terms,
+            asked: Numbered::new(alloc),
+            known: Vec::new(alloc),
+        }
+    }
+
+    /// How many goals there are.
+    pub fn len(&self) -> usize
+        ensures { result ≡ length self.now.asked }
+    {
+        self.asked.len()
+    }
+
+    /// The number of a goal, which is the next one where the goal is new. There is none where no type has the number of the
+    /// goal's.
+    pub fn goal(&mut self, asked: Asked) -> Result<Option<usize>, NoMemory>
+        ensures extends { Extends self.old self.new }
+        ensures number { IfOk result (λ o. IfSome o (λ number. slice_get self.new.asked number ≡ Some asked)) }
+    {
+        if asked.subject >= self.terms.len() {
+            return Ok(None);
+        }
+        let number = self.asked.intern(asked)?;
+        Ok(Some(number))
+    }
+
+    /// Finds the candidates of a goal, with the types and goals that they bring. Whether all rules could be tried.
+    pub fn expand(&mut self, alloc: Global, goal: usize) -> Result<bool, NoMemory>
+        ensures { Extends self.old self.new }
+    {
+        let Some(asked) = self.asked.get(goal) else {
+            return Ok(false);
+        };
+        let found = find_candidates(alloc, &self.rules, &mut self.terms, &mut self.asked, asked);
+        // What is asked of it is that the parts of a type come first, whatever was found.
+        let _count = self.terms.len();
+        let Some(candidates) = found? else {
+            return Ok(false);
+        };
+        note_known(&mut self.known, goal, candidates)?;
+        Ok(true)
+    }
+
     /// The candidates of a goal, if they are known.
     pub fn candidates(&self, goal: usize) -> Option<&Candidates>
         ensures { option_copied result ≡ candidates_at self.now goal }

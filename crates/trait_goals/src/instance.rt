@@ -20,8 +20,8 @@ pub enum Found {
     Open,
 }
 
-// What stands at a place.
-fn at<T: Copy>(items: &[T], place: usize) -> Option<T>
+/// What stands at a place.
+pub(crate) fn at<T: Copy>(items: &[T], place: usize) -> Option<T>
     ensures { result ≡ slice_get items.now place }
 {
     items.get(place).copied()
@@ -97,11 +97,7 @@ fn match_at(terms: &Terms, rule: &Rule, place: usize, found: &mut Vec<Option<usi
 }
 
 // No types but that of the head.
-fn with_head(
-    alloc: Global,
-    rule: &Rule,
-    subject: usize,
-) -> Result<Vec<Option<usize>>, NoMemory>
+fn with_head(alloc: Global, rule: &Rule, subject: usize) -> Result<Vec<Option<usize>>, NoMemory>
     ensures { IfOk result (λ found. (place number : ℕ) → slice_get found.items place ≡ Some (Some number) →
         (place ≡ rule.now.head) × (number ≡ subject)) }
 {
@@ -192,9 +188,12 @@ fn complete(
         AllTold terms.new all.items types)) }
 {
     let mut all = Vec::new(alloc);
-    for shape in rule.shapes.iter() {
-        let noted = noted_at(found, all.len());
-        let Some(number) = number_of(terms, *shape, noted, all.as_slice())? else {
+    for place in 0..rule.shapes.len() {
+        let Some(shape) = at(rule.shapes.as_slice(), place) else {
+            return Ok(None);
+        };
+        let noted = noted_at(found, place);
+        let Some(number) = number_of(terms, shape, noted, all.as_slice())? else {
             return Ok(None);
         };
         all.push(number)?;

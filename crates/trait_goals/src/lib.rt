@@ -14,9 +14,12 @@
 mod asked;
 mod delegate;
 mod goals;
+mod growing;
 mod instance;
+mod trying;
 
 pub use asked::{Asked, Candidate, Candidates};
 pub use delegate::{GoalsDelegate, GoalsOf, LendsGoals};
 pub use goals::Goals;
 pub use instance::{Found, find_instance};
+pub use trying::{Tried, try_rule};
