@@ -1,8 +1,9 @@
 //! Which types implement which traits, in words of types and rules alone.
 //!
-//! A goal is told by its number among the goals of `trait_goals`. A yes says that its type implements its trait, and a no that it
-//! does not, by the rules that were given. A goal whose candidates are not known says maybe, and so may one that asks it. After
-//! that `was_wanted` says for which goals it would have helped to know the candidates: make these known, and ask anew.
+//! A goal is told by its number among the goals of `trait_goals`. A yes says that its type
+//! implements its trait, and a no that it does not, by the rules that were given. A goal whose
+//! candidates are not known says maybe, and so may one that asks it. Then `was_wanted` tells which
+//! goals these were: make their candidates known, and ask anew.
 //!
 //! | File of `specs/` | Has |
 //! |---|---|

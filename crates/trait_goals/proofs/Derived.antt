@@ -1,5 +1,5 @@
 -- A type implements a trait where the number of the goal is derivable.
-use Rattle.std.proofs.Common.{◌≡◌, ℕ, List, [], ◌∷◌, map, slice_get, Contains, Option, None, Some, zero, suc, refl}
+use Rattle.std.proofs.Common.{◌≡◌, ℕ, List, [], ◌∷◌, map, Contains, Option, None, Some, zero, suc, refl}
 use Rattle.std.proofs.Common.{sym, ap, ◌∙◌, subst, arith}
 use Rattle.open_graphs.proofs.Members.{Contains-map, Contains-mapped}
 use Rattle.path_kinds.specs.declared.path.PathKind.{PathKind}
@@ -12,7 +12,8 @@ use Rattle.trait_goals.specs.Below.{Rule, Term}
 use Rattle.trait_goals.specs.Known.{AreRight, IsAsked, IsCandidate, Table, candidates_at, kind_at}
 use Rattle.trait_goals.specs.Rule.{asks, candidate_by, candidates_by, candidates_of, unknown}
 use Rattle.trait_goals.specs.declared.asked.Candidates.{Candidates}
-use Rattle.trait_goals.proofs.Queries.{AsksFor, HasNumber, covers, has_query, kind_is, queries_of, query, query_from}
+use Rattle.trait_goals.proofs.Queries.{AsksFor, HasKnown, HasNumber, covers, has_query, kind_is, queries_of, query}
+use Rattle.trait_goals.proofs.Queries.{query_from}
 
 pub only_one : {A : Type 0} (x y : A) → Contains (x ∷ []) y → x ≡ y
 only_one x y (zero, l, e) = e
@@ -32,7 +33,8 @@ module _ (table : Table) where
       let w = c.each m.0 m.1 in
       record {
         number = w.number;
-        is_among = subst (λ k. Contains held (asks k w.number)) (same ∙ ap (λ x. x.kind) m.2) (all w.number w.is_question);
+        is_among =
+            subst (λ k. Contains held (asks k w.number)) (same ∙ ap (λ x. x.kind) m.2) (all w.number w.is_question);
         asks_for = subst (AsksFor table w.number) (ap (λ x. x.goal) m.2) w.is_asked;
       }
 
@@ -43,8 +45,13 @@ module _ (table : Table) where
         let p = subst (λ o. lists.Proves (λ a. a) (candidates_by (kind_at table number) number o) held) e proved in
         let within = subst (λ c. IsWithin (lists.asked_by (λ a. a) c) held)
         (sym (only_one (unknown number) p.candidate p.is_candidate)) p.within in
-        never_unknown number e
-        (led (asks ForcedAmbiguity number) (within (asks ForcedAmbiguity number) (0, omega arith, refl)) (λ k. absurd cc))
+        let own = asks ForcedAmbiguity number in
+        never_unknown number e (led own (within own (0, omega arith, refl)) (λ k. absurd cc))
+
+    is_known : (number : ℕ) (o : Option Candidates) → candidates_at table number ≡ o → Derives proves given number
+        → HasKnown table number
+    is_known number None e derived = absurd (never_unknown number e derived)
+    is_known number (Some known) e derived = record { known = known; is_known = e }
 
     module _ (right : AreRight table) where
       by_known : (number : ℕ) (q : Query) → AsksFor table number q → (known : Candidates) →
@@ -79,19 +86,11 @@ module _ (table : Table) where
           has_query table right given w.number a.goal (into (asks a.kind w.number) w.is_among k) w.asks_for)
           (λ a has not. let w = in_held a has in led (asks a.kind w.number) w.is_among not a.goal w.asks_for)
 
-      by_either : (number : ℕ) (q : Query) → AsksFor table number q → (o : Option Candidates) →
-          candidates_at table number ≡ o → Derives proves given number → (held : List (Question ℕ)) → proves number held →
-          ((a : Question ℕ) → Contains held a → a.kind ≡ Coinductive → Contains given a.goal) →
-          ((a : Question ℕ) → Contains held a → IsNotCoinductive a.kind → (p : Query) → AsksFor table a.goal p →
-          Derives (ByRule table.rules) (queries_of table right given) p) →
-          Derives (ByRule table.rules) (queries_of table right given) q
-      by_either number q h None e derived held proved into led = absurd (never_unknown number e derived)
-      by_either number q h (Some known) e derived held proved into led = by_known number q h known e held proved into led
-
       derived_by : (number : ℕ) → Derives proves given number → (q : Query) → AsksFor table number q
           → Derives (ByRule table.rules) (queries_of table right given) q
       derived_by number (derive held proved into led) q h =
-          by_either number q h (candidates_at table number) refl (derive held proved into led) held proved into
+          let k = is_known number (candidates_at table number) refl (derive held proved into led) in
+          by_known number q h k.known k.is_known held proved into
           (λ a has not p asks_for. derived_by a.goal (led a has not) p asks_for)
 
   module _ (right : AreRight table) (number : ℕ) (term : Term) (bound : ℕ)

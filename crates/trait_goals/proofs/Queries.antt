@@ -1,6 +1,6 @@
 -- What the numbers of goals ask for.
 use Rattle.std.proofs.Common.{◌≡◌, ℕ, Bool, true, false, List, map, slice_get, Contains, Option, None, Some, refl}
-use Rattle.std.proofs.Common.{sym, ap, ap₂, ◌∙◌, subst, arith}
+use Rattle.std.proofs.Common.{sym, ap, ap₂, ◌∙◌, subst}
 use Rattle.std.specs.List.{filter}
 use Rattle.std.specs.Option.{option_map_or, unwrap_or}
 use Rattle.open_graphs.proofs.Members.{Contains-filtered, Contains-map, Contains-mapped, filtered_member}
@@ -47,6 +47,11 @@ module _ (table : Table) where
   pub has_asked : (number : ℕ) (q : Query) → AsksFor number q → is_asked number ≡ true
   has_asked number q h = ap (λ o. option_map_or (λ _. true) o false) h.at
 
+  -- the candidates of the goal of this number are known
+  pub record HasKnown (number : ℕ) : Type 0 where
+    pub known : Candidates
+    pub is_known : candidates_at table number ≡ Some known
+
   -- among the questions is one of this kind, by its number
   pub record HasNumber (questions : List (Question ℕ)) (a : Question Query) : Type 0 where
     pub number : ℕ
@@ -55,7 +60,8 @@ module _ (table : Table) where
 
   module _ (right : AreRight table) where
     -- the known candidates of a goal
-    pub covers : (number : ℕ) (q : Query) (known : Candidates) → AsksFor number q → candidates_at table number ≡ Some known
+    pub covers : (number : ℕ) (q : Query) (known : Candidates) → AsksFor number q
+        → candidates_at table number ≡ Some known
         → Covers table.rules table.made table.asked q.bound q.subject (lists_of known)
     covers number q known h e =
         subst (λ b. Covers table.rules table.made table.asked b q.subject (lists_of known)) h.same_bound
@@ -115,8 +121,8 @@ module _ (table : Table) where
     abbrev pub of_queries : List (Question ℕ) → List (Question Query)
     of_queries questions = map of_query (filter (λ a. is_asked a.goal) questions)
 
-    pub has_question : (questions : List (Question ℕ)) (a : Question ℕ) (q : Query) → Contains questions a → AsksFor a.goal q
-        → Contains (of_queries questions) (record { kind = a.kind; goal = q })
+    pub has_question : (questions : List (Question ℕ)) (a : Question ℕ) (q : Query) → Contains questions a
+        → AsksFor a.goal q → Contains (of_queries questions) (record { kind = a.kind; goal = q })
     has_question questions a q has h =
         subst (λ g. Contains (of_queries questions) (record { kind = a.kind; goal = g })) (is_query a.goal q h)
         (Contains-mapped of_query (filter (λ b. is_asked b.goal) questions) a

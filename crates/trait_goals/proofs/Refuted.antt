@@ -1,5 +1,5 @@
 -- A type does not implement a trait where the number of the goal is refutable.
-use Rattle.std.proofs.Common.{◌≡◌, ℕ, List, [], ◌∷◌, map, Contains, Option, None, Some, refl, sym, ap, ◌∙◌, subst, arith}
+use Rattle.std.proofs.Common.{◌≡◌, ℕ, List, map, Contains, Option, None, Some, refl, sym, ◌∙◌, subst, arith}
 use Rattle.open_graphs.proofs.Members.{Contains-map, Contains-mapped}
 use Rattle.path_kinds.specs.declared.path.PathKind.TheVariants.{ForcedAmbiguity}
 use Rattle.search_context.specs.Question.{Overlap, Question}
@@ -12,8 +12,8 @@ use Rattle.trait_goals.specs.Known.{AreRight, IsAsked, Table, candidates_at, kin
 use Rattle.trait_goals.specs.Rule.{asks, candidate_by, candidates_by, candidates_of, unknown}
 use Rattle.trait_goals.specs.declared.asked.Candidates.{Candidates}
 use Rattle.trait_goals.proofs.Derived.{only_one}
-use Rattle.trait_goals.proofs.Queries.{AsksFor, covers, has_query, has_question, kind_is, of_queries, queries_of, query}
-use Rattle.trait_goals.proofs.Queries.{query_from, question_from}
+use Rattle.trait_goals.proofs.Queries.{AsksFor, HasKnown, covers, has_query, has_question, kind_is, of_queries}
+use Rattle.trait_goals.proofs.Queries.{queries_of, query, query_from, question_from}
 
 -- what shows that a type implements a trait clashes with what shows that it does not
 pub clash : (rules : Rules) (q : Query) (held failed : List (Question Query)) → ByRule rules q held
@@ -37,11 +37,16 @@ module _ (table : Table) where
       never_unknown number e (before number is (asks ForcedAmbiguity number)
       (subst (Contains (failed number is)) (sym same) w.2) (λ k. absurd cc))
 
+  is_known : (number : ℕ) (o : Option Candidates) → candidates_at table number ≡ o → IsRefutable refutes number
+      → HasKnown table number
+  is_known number None e refuted = absurd (never_unknown number e refuted)
+  is_known number (Some known) e refuted = record { known = known; is_known = e }
+
   module _ (right : AreRight table) where
-    against_known : (number : ℕ) (q : Query) → AsksFor table number q → (known : Candidates) →
+    against : (number : ℕ) (q : Query) → AsksFor table number q → (known : Candidates) →
         candidates_at table number ≡ Some known → (failed : List (Question ℕ)) → refutes number failed →
         AgainstRules table.rules q (of_queries table right failed)
-    against_known number q h known e failed refuted rule types gives is =
+    against number q h known e failed refuted rule types gives is =
         let kind = kind_at table number in
         let r = subst (λ o. lists.Refutes (λ a. a) (candidates_by kind number o) failed) e refuted in
         let c = (covers table right number q known h e).all rule types gives is in
@@ -52,18 +57,15 @@ module _ (table : Table) where
         let o = c.is_candidate.only v.0 (subst (λ l. Contains l v.0) m.2 v.1) in
         let same = c.is_candidate.one_instance types is o.clause o.is_clause in
         let question = asks_clause table.rules types q.bound o.clause in
-        let asked = subst (λ t. IsAsked table.made table.asked v.0 t (bound_of q.bound o.clause.bound)) (sym same) o.is_asked in
+        let bound = bound_of q.bound o.clause.bound in
+        let asked = subst (λ t. IsAsked table.made table.asked v.0 t bound) (sym same) o.is_asked in
         let has = has_question table right failed (asks kind v.0) question.goal
-        (subst (Contains failed) (sym (v.2 ∙ u.2)) w.2) asked in
-        (question, Contains-mapped (asks_clause table.rules types q.bound) rule.clauses.items o.clause o.is_clause,
-        subst (λ k. Contains (of_queries table right failed) (record { kind = k; goal = question.goal }))
-        (kind_is table number q h) has)
-
-    against_either : (number : ℕ) (q : Query) → AsksFor table number q → (o : Option Candidates) →
-        candidates_at table number ≡ o → IsRefutable refutes number → (failed : List (Question ℕ)) → refutes number failed →
-        AgainstRules table.rules q (of_queries table right failed)
-    against_either number q h None e is failed refuted = absurd (never_unknown number e is)
-    against_either number q h (Some known) e is failed refuted = against_known number q h known e failed refuted
+        (subst (Contains failed) (sym (v.2 ∙ u.2)) w.2) asked in (
+          question,
+          Contains-mapped (asks_clause table.rules types q.bound) rule.clauses.items o.clause o.is_clause,
+          subst (λ k. Contains (of_queries table right failed) (record { kind = k; goal = question.goal }))
+              (kind_is table number q h) has,
+        )
 
     refuted_by : (number : ℕ) → IsRefutable refutes number → (q : Query) → AsksFor table number q
         → IsRefutable (AgainstRules table.rules) q
@@ -73,8 +75,9 @@ module _ (table : Table) where
         (has_query table right among number q is h)
         (λ p has.
         let w = query_from table right among p has in
-        against_either w.number p w.asks_for (candidates_at table w.number) refl
-        (refute among failed w.is_among by_rule near before) (failed w.number w.is_among) (by_rule w.number w.is_among))
+        let k = is_known w.number (candidates_at table w.number) refl
+        (refute among failed w.is_among by_rule near before) in
+        against w.number p w.asks_for k.known k.is_known (failed w.number w.is_among) (by_rule w.number w.is_among))
         (λ p has a in_failed k.
         let w = query_from table right among p has in
         let n = question_from table right (failed w.number w.is_among) a in_failed in

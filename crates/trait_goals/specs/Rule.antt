@@ -1,5 +1,5 @@
--- The candidates of a goal as a search takes them: those that are known, and where none are, one that asks the goal itself by a
--- step that never closes a cycle, so that the goal says maybe.
+-- The candidates of a goal as a search takes them: those that are known, and where they are not, one that asks the goal
+-- itself by forced ambiguity, so that the goal says maybe.
 use Rattle.std.specs.Prelude.{ℕ, ◌+◌, false, List, [], ◌∷◌, length, map, sum_by, Option, Some, None}
 use Rattle.std.specs.Option.{option_map_or}
 use Rattle.path_kinds.specs.declared.path.PathKind.{PathKind}
@@ -30,7 +30,8 @@ candidates_of table goal = candidates_by (kind_at table goal) goal (candidates_a
 
 -- the steps that the known candidates of a goal take at most
 abbrev pub steps_at : Option Candidates → ℕ
-steps_at known = option_map_or (λ k. sum_by (λ c. length c.questions.items + 3) k.all.items + length k.all.items) known 0
+steps_at known =
+    option_map_or (λ k. sum_by (λ c. length c.questions.items + 3) k.all.items + length k.all.items) known 0
 
 -- no goal takes more: the one that says maybe takes 7
 abbrev pub most_steps : Table → ℕ

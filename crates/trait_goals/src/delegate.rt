@@ -35,8 +35,8 @@ pub struct GoalsOf<L> {
 /// The delegate of goals of traits, which has eight runs of a goal and the provisional cache.
 pub type GoalsDelegate<L> = CandidatesDelegate<GoalsOf<L>, 8, 1>;
 
-// Each known candidate asks its goals by the kind of the trait. A goal whose candidates are not known has one, which asks the goal
-// itself by forced ambiguity, and so says maybe.
+// Each known candidate asks its goals by the kind of the trait. A goal whose candidates are not
+// known has one, which asks the goal itself by forced ambiguity, and so says maybe.
 impl<L: LendsGoals> CandidateLists for GoalsOf<L> {
     ghost use Rattle.std.proofs.Common.{rules};
     ghost use Rattle.std.specs.Prelude.{ℕ};
@@ -65,12 +65,7 @@ impl<L: LendsGoals> CandidateLists for GoalsOf<L> {
         }
     }
 
-    fn question(
-        self,
-        goal: usize,
-        candidate: usize,
-        place: usize,
-    ) -> Option<(PathKind, usize)> {
+    fn question(self, goal: usize, candidate: usize, place: usize) -> Option<(PathKind, usize)> {
         let goals = self.lender.goals();
         match goals.candidates(goal) {
             Some(known) => {

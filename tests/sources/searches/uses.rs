@@ -1,6 +1,6 @@
-//! Tests of the uses of the library: games, services, blocks that a write may reach, shapes, and subtypes. Of subtypes the search is laid
-//! beside a greatest fixpoint that is worked out plainly, on all small types, on types and texts drawn at random and on cases
-//! of the textbook; and its runs are counted with the provisional cache and without it.
+//! Tests of the uses of the library: games, services, blocks that a write may reach, shapes, traits, and subtypes. Of
+//! subtypes the search is laid beside a greatest fixpoint that is worked out plainly, on all small types, on types and texts
+//! drawn at random and on cases of the textbook; and its runs are counted with the provisional cache and without it.
 
 mod agreed;
 mod blocks;
@@ -15,3 +15,4 @@ mod small;
 mod tables;
 mod textbook;
 mod towers;
+mod traits;
