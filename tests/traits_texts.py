@@ -61,8 +61,8 @@ def params_of(type_):
 class Declarations:
     """Random declarations. Those for rustc keep to what it accepts: no two impls for one type, no type of infinite size."""
 
-    def __init__(self, chance, for_rustc, most_types=30, most_traits=10):
-        self.chance, self.for_rustc = chance, for_rustc
+    def __init__(self, chance, for_rustc, most_types=30, most_traits=10, growing=True):
+        self.chance, self.for_rustc, self.growing = chance, for_rustc, growing
         self.types = {f"T{number}": chance.choice((0, 0, 1, 1, 1, 2)) for number in range(chance.randint(1, most_types))}
         kinds = ("plain", "plain", "marked", "auto")
         self.traits = {f"A{number}": chance.choice(kinds) for number in range(chance.randint(1, most_traits))}
@@ -114,7 +114,7 @@ class Declarations:
 
     def field(self, params):
         """The type of a field. For rustc, types of this text stand behind pointers, and there are no references."""
-        type_ = self.any_type(params, self.chance.choice((0, 1, 2, 3)))
+        type_ = self.any_type(params, self.chance.choice((0, 1, 2, 3) if self.growing else (0, 1)))
         if not self.for_rustc:
             return type_
         while "&" in show(type_):
@@ -197,7 +197,7 @@ class Declarations:
             if params and self.chance.random() < 0.6:
                 bounds[self.chance.choice(params)].append(needed)
                 continue
-            type_ = self.any_type(params, self.chance.choice((1, 1, 2)))
+            type_ = self.any_type(params, self.chance.choice((1, 1, 2) if self.growing else (1,)))
             if params_of(type_) or not self.for_rustc:
                 clauses.append(f"{show(type_) if self.for_rustc else self.text(type_)}: {needed}")
         self.lines.append(self.impl_text(trait, negative, head, bounds, clauses))
