@@ -10,8 +10,9 @@ refuses, with a line `FILE:LINE: WORD: what is wrong` and the status 2.
 A goal is a trait and a type without parameters. It holds if all needs of one of its candidates do. What rests on itself
 holds only if a goal of a coinductive trait is on the way round: so the goals that hold are the greatest set such that
 each of its goals has a derivation which ends, where a need of a coinductive goal ends it if that need is in the set.
-Of a goal that reaches too many others only some are looked at. It is answered if whatever holds of the others, the
-answer is the same.
+Of a goal that reaches too many others only some are looked at, and none that is farther away than the limit on depth
+allows. It is answered if the answer is the same whatever holds of the others. The program may say maybe where this one
+answers: its way to a goal may be longer than the shortest one.
 """
 
 import re
@@ -509,7 +510,10 @@ class Reader:
         token = self.word
         type_ = self.type_()
         self.expect(":")
-        self.asked += [(None, Need(type_, trait)) for trait in self.bounds()]
+        bounds = self.bounds()
+        if not bounds or self.words[self.at - 1].text == "+":
+            self.refuse("a trait is expected here")
+        self.asked += [(None, Need(type_, trait)) for trait in bounds]
         self.expect("?")
         self.questions_at.append((token.file, token.start, self.words[self.at - 1].end))
 
@@ -631,14 +635,16 @@ class Program:
     def reached(self, goal, bound=BOUND):
         """The goals that are reached, those that are near first, with their candidates, until there are so many."""
         found, left = {}, deque([goal])
-        seen = {goal}
+        distances = {goal: 0}
         while left and len(found) < bound:
             here = left.popleft()
+            if distances[here] > self.limit:
+                break
             found[here] = self.candidates(here)
             for needs in found[here]:
                 for need in needs:
-                    if need not in seen:
-                        seen.add(need)
+                    if need not in distances:
+                        distances[need] = distances[here] + 1
                         left.append(need)
         return found
 
@@ -724,9 +730,13 @@ class Graph:
 
 def read_files(files):
     """The texts of the files, or of standard input."""
-    if not files:
-        return [("-", sys.stdin.read())]
-    return [(file, Path(file).read_text(encoding="utf-8")) for file in files]
+    for file in files or ["-"]:
+        data = Path(file).read_bytes() if files else sys.stdin.buffer.read()
+        try:
+            yield file, data.decode()
+        except UnicodeDecodeError as error:
+            line = data.count(b"\n", 0, error.start) + 1
+            raise Refused(file, line, f"byte {data[error.start]}", "this is no UTF-8") from error
 
 
 def main():
@@ -735,10 +745,10 @@ def main():
     try:
         program = Program(read_files([each for each in sys.argv[1:] if each != "--as-rustc"]))
         lines = list(program.lines(as_rustc))
-    except Refused as refused:
-        print(refused, file=sys.stderr)
-        return 2
-    print("".join(f"{line}\n" for line in lines), end="")
+    except (Refused, OSError, RecursionError) as error:
+        print(error, file=sys.stderr)
+        return 2 if isinstance(error, Refused) else 3 if isinstance(error, OSError) else 4
+    sys.stdout.write("".join(f"{line}\n" for line in lines))
     return 0
 
 
