@@ -229,3 +229,22 @@ class Declarations:
             type_ = self.any_type((), self.chance.choice((1, 1, 2, 2, 3)))
             asked.append((type_, self.chance.choice(list(self.traits))))
         return self.lines, asked
+
+
+def rules(chance, for_rustc=False):
+    """A few types and traits whose goals need each other in all ways, as lines, and all these goals as questions. For rustc
+    there is no more than one impl for each, and nothing that it could judge without a question."""
+    generic = for_rustc or chance.random() < 0.5
+    types = [f"G{number}<T>" if generic else f"G{number}" for number in range(chance.randint(1, 5))]
+    kinds = ("", "", "#[rustc_coinductive] ") if chance.random() < 0.8 else ("",)
+    traits = {f"A{number}": chance.choice(kinds) for number in range(chance.randint(1, 3))}
+    lines = [f"struct {each}{'(T)' * generic};" for each in types] + [f"{mark}trait {each} {{}}" for each, mark in traits.items()]
+    for type_ in types:
+        for trait in traits:
+            for _ in range(chance.choice((0, 1, 1, 1)) if for_rustc else chance.choice((0, 1, 1, 2, 3))):
+                needs = [f"{chance.choice(types)}: {chance.choice(list(traits))}" for _ in range(chance.choice((0, 1, 1, 2, 2, 3)))]
+                where = f" where {', '.join(needs)}" if needs else ""
+                lines.append(f"impl{'<T>' * generic} {trait} for {type_}{where} {{}}")
+    asked = [(path(type_.split("<")[0], *[path("u8")] * generic), trait) for type_ in types for trait in traits]
+    chance.shuffle(asked)
+    return lines, asked
