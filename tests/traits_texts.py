@@ -67,7 +67,8 @@ class Declarations:
         kinds = ("plain", "plain", "marked", "auto")
         self.traits = {f"A{number}": chance.choice(kinds) for number in range(chance.randint(1, most_traits))}
         self.all_types = {**self.types, **OF_STD} if for_rustc else self.types
-        self.lines = []
+        # The items, and for which heads there is an impl of which trait.
+        self.lines, self.heads = [], []
 
     # Types.
 
@@ -87,10 +88,11 @@ class Declarations:
     def leaf(self):
         if self.for_rustc:
             return path(self.chance.choice(SIZED))
-        if self.chance.random() < 0.1:
-            count = self.chance.choice((1, 1, 2))
-            return Type(("dyn", frozenset(self.chance.choice(list(self.traits)) for _ in range(count))))
-        return path(self.chance.choice(NUMBERS))
+        return self.dyn() if self.chance.random() < 0.15 else path(self.chance.choice(NUMBERS))
+
+    def dyn(self):
+        count = self.chance.choice((1, 1, 2))
+        return Type(("dyn", frozenset(self.chance.choice(list(self.traits)) for _ in range(count))))
 
     def built_in(self, inner):
         """A type of a form that is no path."""
@@ -159,7 +161,7 @@ class Declarations:
 
     def write_trait(self, name, kind):
         above = ""
-        if kind != "auto" and not self.for_rustc and self.chance.random() < 0.2:
+        if kind != "auto" and not self.for_rustc and self.chance.random() < 0.4:
             above = f": {self.chance.choice(list(self.traits))}"
         lead = {"plain": "", "marked": "#[rustc_coinductive] ", "auto": "auto "}[kind]
         self.lines.append(f"{lead}trait {name}{above} {{}}")
@@ -186,6 +188,7 @@ class Declarations:
             if self.for_rustc and any(unify(renamed(head, "'"), each, {}) for each in heads):
                 continue
             heads.append(head)
+            self.heads.append((trait, head))
             self.write_impl(trait, negative, head)
 
     def write_impl(self, trait, negative, head):
@@ -196,6 +199,9 @@ class Declarations:
             needed = self.chance.choice(list(self.traits))
             if params and self.chance.random() < 0.6:
                 bounds[self.chance.choice(params)].append(needed)
+                continue
+            if params and self.chance.random() < 0.2:
+                clauses.append(f"Self: {needed}")
                 continue
             type_ = self.any_type(params, self.chance.choice((1, 1, 2) if self.growing else (1,)))
             if params_of(type_) or not self.for_rustc:
@@ -224,11 +230,26 @@ class Declarations:
             self.write_impls(name, kind)
         if not self.for_rustc:
             self.chance.shuffle(self.lines)
-        asked = []
-        for _ in range(questions):
-            type_ = self.any_type((), self.chance.choice((1, 1, 2, 2, 3)))
-            asked.append((type_, self.chance.choice(list(self.traits))))
-        return self.lines, asked
+        return self.lines, [self.question() for _ in range(questions)]
+
+    def question(self):
+        """A type and a trait, often one for which there is an impl that may fit."""
+        trait = self.chance.choice(list(self.traits))
+        roll = self.chance.random()
+        if roll < 0.6 and self.heads:
+            trait, head = self.chance.choice(self.heads)
+            return self.instance(head, {}), trait if roll < 0.5 else self.chance.choice(list(self.traits))
+        if roll < 0.7 and not self.for_rustc:
+            return self.dyn(), trait
+        return self.any_type((), self.chance.choice((1, 1, 2, 2, 3))), trait
+
+    def instance(self, head, of):
+        """A type that the head fits, or nearly so."""
+        if head.head[0] == "param":
+            if head.head[1] not in of or self.chance.random() < 0.2:
+                of[head.head[1]] = self.any_type((), self.chance.choice((0, 0, 1, 2)))
+            return of[head.head[1]]
+        return Type(head.head, tuple(self.instance(each, of) for each in head.args))
 
 
 def rules(chance, for_rustc=False):
