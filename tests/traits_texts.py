@@ -97,8 +97,8 @@ class Declarations:
     def built_in(self, inner):
         """A type of a form that is no path."""
         kind = self.chance.choice(("&", "&mut", "*const", "*mut", "tuple", "tuple", "array", "slice", "fn"))
-        if kind == "slice" and self.for_rustc:
-            return Type(("&",), (Type(("slice",), (inner(),)),))
+        # For rustc a parameter stands for no type without size.
+        kind = "array" if kind == "slice" and self.for_rustc else kind
         if kind == "tuple":
             return Type(("tuple",), tuple(inner() for _ in range(self.chance.choice((0, 1, 2, 2, 3)))))
         if kind == "array":
