@@ -26,9 +26,9 @@ BOUND = 600
 DEFAULT_LIMIT = 128
 PRIMITIVES = set("bool char str i8 i16 i32 i64 i128 isize u8 u16 u32 u64 u128 usize f32 f64".split())
 KEYWORDS = set(
-    "as async await break const continue crate dyn else enum extern false fn for gen if impl in let loop match mod move "
-    "mut pub ref return self Self static struct super trait true type unsafe use where while abstract become box do "
-    "final macro override priv try typeof unsized virtual yield".split()
+    "as async await break const continue crate dyn else enum extern false fn for gen if impl in let loop match mod "
+    "move mut pub ref return self Self static struct super trait true type unsafe use where while abstract become box "
+    "do final macro override priv try typeof unsized virtual yield".split()
 )
 
 
@@ -584,7 +584,7 @@ class Program:
         return self.numbers[row]
 
     def fits(self, pattern, number, of):
-        """Whether a type is an instance of the pattern, by what parameters stand for; of these more may be known then."""
+        """Whether a type is an instance of the pattern, by what parameters stand for, of which more are known then."""
         if pattern.head[0] == "param":
             return of.setdefault(pattern.head[1], number) == number
         head, args = self.rows[number]

@@ -23,7 +23,7 @@ def param(name):
 
 
 def unify(left, right, of):
-    """Whether two heads, whose parameters have names of their own, may be for one type, as far as that is easily seen."""
+    """Whether two heads may be for one type, as far as that is easily seen. Their parameters have names of their own."""
     left, right = resolve(left, of), resolve(right, of)
     if left == right:
         return True
@@ -59,11 +59,12 @@ def params_of(type_):
 
 
 class Declarations:
-    """Random declarations. Those for rustc keep to what it accepts: no two impls for one type, no type of infinite size."""
+    """Random declarations. For rustc there are no two impls for one type, no type of infinite size, and the like."""
 
     def __init__(self, chance, for_rustc, most_types=30, most_traits=10, growing=True):
         self.chance, self.for_rustc, self.growing = chance, for_rustc, growing
-        self.types = {f"T{number}": chance.choice((0, 0, 1, 1, 1, 2)) for number in range(chance.randint(1, most_types))}
+        names = [f"T{number}" for number in range(chance.randint(1, most_types))]
+        self.types = {name: chance.choice((0, 0, 1, 1, 1, 2)) for name in names}
         kinds = ("plain", "plain", "marked", "auto")
         self.traits = {f"A{number}": chance.choice(kinds) for number in range(chance.randint(1, most_traits))}
         self.all_types = {**self.types, **OF_STD} if for_rustc else self.types
@@ -138,7 +139,7 @@ class Declarations:
         fields = [self.field(params) for _ in range(self.chance.choice((0, 1, 1, 2, 3)))]
         if self.for_rustc:
             # Each parameter has to be used.
-            fields += [path("PhantomData", param(each)) if self.chance.random() < 0.7 else self.unused(each) for each in params]
+            fields += map(self.use, params)
         head = f"{name}<{', '.join(params)}>" if params else name
         texts = [show(each) if self.for_rustc else self.text(each) for each in fields]
         form = self.chance.randrange(3)
@@ -150,10 +151,9 @@ class Declarations:
         else:
             self.lines.append(f"enum {head} {{ None, {', '.join(self.variants(texts))} }}")
 
-    @staticmethod
-    def unused(name):
-        """A type that uses a parameter, and for auto traits does not ask about it."""
-        return Type(("fn",), (param(name),))
+    def use(self, name):
+        """A type that uses a parameter. Of some of these auto traits do not ask about it."""
+        return path("PhantomData", param(name)) if self.chance.random() < 0.7 else Type(("fn",), (param(name),))
 
     def variants(self, texts):
         for place, each in enumerate(texts):
@@ -253,17 +253,19 @@ class Declarations:
 
 
 def rules(chance, for_rustc=False):
-    """A few types and traits whose goals need each other in all ways, as lines, and all these goals as questions. For rustc
-    there is no more than one impl for each, and nothing that it could judge without a question."""
+    """A few types and traits whose goals need each other in all ways, as lines, and all these goals as questions. For
+    rustc there is no more than one impl for each, and nothing that it could judge without a question."""
     generic = for_rustc or chance.random() < 0.5
     types = [f"G{number}<T>" if generic else f"G{number}" for number in range(chance.randint(1, 5))]
     kinds = ("", "", "#[rustc_coinductive] ") if chance.random() < 0.8 else ("",)
     traits = {f"A{number}": chance.choice(kinds) for number in range(chance.randint(1, 3))}
-    lines = [f"struct {each}{'(T)' * generic};" for each in types] + [f"{mark}trait {each} {{}}" for each, mark in traits.items()]
+    lines = [f"struct {each}{'(T)' * generic};" for each in types]
+    lines += [f"{mark}trait {each} {{}}" for each, mark in traits.items()]
+    need = lambda: f"{chance.choice(types)}: {chance.choice(list(traits))}"
     for type_ in types:
         for trait in traits:
             for _ in range(chance.choice((0, 1, 1, 1)) if for_rustc else chance.choice((0, 1, 1, 2, 3))):
-                needs = [f"{chance.choice(types)}: {chance.choice(list(traits))}" for _ in range(chance.choice((0, 1, 1, 2, 2, 3)))]
+                needs = [need() for _ in range(chance.choice((0, 1, 1, 2, 2, 3)))]
                 where = f" where {', '.join(needs)}" if needs else ""
                 lines.append(f"impl{'<T>' * generic} {trait} for {type_}{where} {{}}")
     asked = [(path(type_.split("<")[0], *[path("u8")] * generic), trait) for type_ in types for trait in traits]
