@@ -23,7 +23,7 @@ def param(name):
 
 
 def unify(left, right, of):
-    """Whether two heads may be for one type, as far as that is easily seen. Their parameters have names of their own."""
+    """Whether two heads may be for one type, as far as that is easily seen. They have different parameters."""
     left, right = resolve(left, of), resolve(right, of)
     if left == right:
         return True
