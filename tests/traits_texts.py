@@ -58,6 +58,14 @@ def params_of(type_):
     return {name for each in type_.args for name in params_of(each)}
 
 
+def has_reference(type_, in_function=False):
+    """Whether there are references in a function's type, whose lifetimes are its parameters."""
+    kind = type_.head[0]
+    if in_function and kind in ("&", "&mut"):
+        return True
+    return any(has_reference(each, in_function or kind == "fn") for each in type_.args)
+
+
 class Declarations:
     """Random declarations. For rustc there are no two impls for one type, no type of infinite size, and the like."""
 
@@ -112,7 +120,7 @@ class Declarations:
         """A part of a function's type, for rustc without references, whose lifetimes would be its parameters there."""
         while True:
             type_ = inner()
-            if not self.for_rustc or "&" not in show(type_):
+            if not self.for_rustc or not has_reference(type_, True):
                 return type_
 
     def field(self, params):
@@ -234,6 +242,12 @@ class Declarations:
 
     def question(self):
         """A type and a trait, often one for which there is an impl that may fit."""
+        while True:
+            type_, trait = self.any_question()
+            if not self.for_rustc or not has_reference(type_):
+                return type_, trait
+
+    def any_question(self):
         trait = self.chance.choice(list(self.traits))
         roll = self.chance.random()
         if roll < 0.6 and self.heads:

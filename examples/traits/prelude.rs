@@ -1,6 +1,6 @@
 // What std declares of its types that matters to `Send`, `Sync`, `Sized`, `Copy` and `Clone`, and to auto traits of
-// your own: fields are as std's, but for allocators, and for parts that have all these traits anyway. `Copy` and `Clone`
-// are there for tuples of up to four parts, arrays of up to eight, and functions of up to three parameters.
+// your own: fields are as std's, but for allocators, and for parts that have all these traits anyway.
+// `Copy` and `Clone` are there for tuples of up to four parts, arrays of up to eight, functions of up to three.
 
 // All types are sized but `str`, slices, `dyn` types and what holds one of them in place.
 auto trait Sized {}
