@@ -232,6 +232,11 @@ REFUSED = [
     ("auto struct A;", 1, "auto struct"),
     ("trait A {}\nunsafe struct S;", 2, "struct unsafe"),
     ("#[rustc_coinductive] struct S;", 1, "struct"),
+    ("#[rustc_coinductive]\n#[allow(x)]\nimpl A for u8 {}\ntrait A {}", 3, "impl"),
+    ("#[rustc_coinductive]\n", 2, "end"),
+    ("struct u8;", 1, "u8"),
+    ("trait A {}\nfn f<T: A>() {}\nfn f<T: A>() {}", 3, "f"),
+    ("trait A {}\nfn f<T: (A)>() {}", 2, "("),
 ]
 
 # How much of what a text that means ill has too much of.
@@ -300,6 +305,8 @@ def long_texts():
     yield "many traits", f"{BASE}{each('trait B{} {{}}', ' ')}\nu8: B7?"
     above = " ".join(f"trait B{number + 1}: B{number} {{}}" for number in range(MANY))
     yield "many traits above", f"trait B0 {{}} {above}\ndyn B{MANY}: B0?"
+    yield "many objects", f"{each('trait B{} {{}}', ' ')}\n{each('dyn B{}: B7?', ' ')}"
+    yield "many objects of many traits", f"{each('trait B{} {{}}', ' ')}\n{each('dyn B{0} + B7 + B8: B{0}?', ' ')}"
     yield "many questions", f"{BASE}{'L<u8>: A? ' * MANY}"
     yield "many calls", f"{BASE}fn f<T: A>() {{}} fn main() {{ {'f::<u8>(); ' * MANY} }}"
     yield "a long name", f"struct {'a' * MANY * 10};\nauto trait A {{}}\n{'a' * MANY * 10}: A?"

@@ -115,7 +115,8 @@ def show(type_):
 # The reader.
 
 WORD = re.compile(
-    r"(?P<blank>\s+|//[^\n]*)|(?P<comment>/\*)|(?P<name>[A-Za-z_][A-Za-z0-9_]*)|(?P<lifetime>'[A-Za-z_][A-Za-z0-9_]*)"
+    r"(?P<blank>[ \n\t\r\x0b\x0c]+|//[^\n]*)|(?P<comment>/\*)"
+    r"|(?P<name>[A-Za-z_][A-Za-z0-9_]*)|(?P<lifetime>'[A-Za-z_][A-Za-z0-9_]*)"
     r'|(?P<number>[0-9][A-Za-z0-9_]*)|(?P<text>"[^"\n]*")|(?P<mark>->|::|.)',
     re.DOTALL,
 )
@@ -156,6 +157,8 @@ class Reader:
         # The places of questions and of functions that call, and of attributes of the whole.
         self.questions_at, self.attributes_at = [], []
         self.words, self.at, self.params, self.self_type = [], 0, {}, None
+        # Whether an attribute says that the trait is coinductive which follows.
+        self.marked = False
 
     # Words.
 
@@ -257,7 +260,7 @@ class Reader:
             if args:
                 self.refuse("a parameter has no arguments", token)
             return Type(("param", token.text))
-        if token.text not in PRIMITIVES or token.text in self.types:
+        if token.text not in PRIMITIVES:
             self.types_named.append((token, len(args)))
         elif args:
             self.refuse("a primitive type has no arguments", token)
@@ -281,9 +284,6 @@ class Reader:
                 self.at += 1
             elif questioned and self.take("?"):
                 self.expect("Sized")
-            elif self.take("("):
-                found += self.bounds(True, questioned)
-                self.expect(")")
             elif self.word.kind == "name" and self.word.text not in KEYWORDS:
                 token = self.name()
                 self.traits_named.append(token)
@@ -317,7 +317,14 @@ class Reader:
             needs += [Need(needs_of, trait) for trait in self.bounds(True, True)]
             return
         if self.take(":"):
-            self.bounds()
+            self.lifetimes()
+
+    def lifetimes(self):
+        """Passes over the bounds of a lifetime."""
+        while self.word.kind == "lifetime":
+            self.at += 1
+            if not self.take("+"):
+                return
 
     def where_clauses(self):
         needs = []
@@ -332,7 +339,7 @@ class Reader:
         if self.word.kind == "lifetime":
             self.at += 1
             self.expect(":")
-            self.bounds()
+            self.lifetimes()
             return
         type_ = self.type_()
         self.expect(":")
@@ -363,7 +370,7 @@ class Reader:
     def read(self, text, file):
         """Reads the items of a file."""
         self.words, self.at = list(words_of(text, file)), 0
-        while self.word.kind != "end":
+        while self.word.kind != "end" or self.marked:
             self.params, self.self_type = {}, None
             self.item()
 
@@ -371,10 +378,10 @@ class Reader:
         token = self.word
         if self.take("#"):
             return self.attribute(token)
-        if self.is_question():
+        if self.is_question() and not self.marked:
             return self.question()
         self.visibility()
-        self.items_after(token)
+        return self.item_after(token)
 
     def is_question(self):
         """Whether a type stands here, and no item."""
@@ -383,19 +390,22 @@ class Reader:
         item = ("struct", "enum", "trait", "impl", "unsafe", "pub")
         return not any(map(self.is_next, item)) and not (self.is_next("auto") and self.is_next("trait", 1))
 
-    def items_after(self, token):
+    def item_after(self, start):
+        """An item, behind a mark of visibility. Only a trait may be marked as coinductive."""
+        is_unsafe = self.take("unsafe")
+        if self.is_next("auto") or self.is_next("trait"):
+            return self.trait(self.take("auto"))
+        if self.marked:
+            self.refuse("`trait` is expected here")
+        if self.take("impl"):
+            return self.impl()
+        if is_unsafe:
+            self.refuse("`impl` or `trait` is expected here")
         if self.take("struct"):
             return self.struct()
         if self.take("enum"):
             return self.enum()
-        if self.take("fn"):
-            return self.function(token)
-        self.take("unsafe")
-        if self.is_next("auto") or self.is_next("trait"):
-            return self.trait(self.take("auto"), False)
-        if self.take("impl"):
-            return self.impl()
-        return self.refuse("no item begins so")
+        return self.function(start) if self.take("fn") else self.refuse("no item begins so")
 
     def attribute(self, token):
         whole = self.take("!")
@@ -409,9 +419,7 @@ class Reader:
             self.expect("]")
         elif not whole and self.take("rustc_coinductive"):
             self.expect("]")
-            self.visibility()
-            self.take("unsafe")
-            self.trait(self.take("auto"), True)
+            self.marked = True
         elif (whole and self.take("feature")) or self.take("allow"):
             self.expect("(")
             self.list_until(")", self.lint)
@@ -427,7 +435,7 @@ class Reader:
             self.name()
 
     def declare(self, table, token, what):
-        if token.text in table:
+        if token.text in table or (table is self.types and token.text in PRIMITIVES):
             self.refuse("this name is declared already", token)
         table[token.text] = what
 
@@ -459,8 +467,9 @@ class Reader:
             return self.tuple_fields()
         return self.named_fields() if self.take("{") else []
 
-    def trait(self, auto, marked):
+    def trait(self, auto):
         self.expect("trait")
+        marked, self.marked = self.marked, False
         token = self.name()
         above = self.bounds(True, True) if self.take(":") else []
         self.expect("{", "}")
