@@ -17,12 +17,14 @@ use Rattle.trait_goals.specs.Trying.{AreAsked, AreInside, AsksClause}
 use Rattle.trait_goals.specs.declared.asked.Asked.{Asked}
 use Rattle.trait_goals.proofs.Completing.{keeps_length}
 
-pub inside_more : (was made : List Made) (asked : List Asked) → Keeps was made → AreInside was asked → AreInside made asked
+pub inside_more : (was made : List Made) (asked : List Asked) → Keeps was made → AreInside was asked →
+    AreInside made asked
 inside_more was made asked keeps h = record {
   inside = λ n e at. let w = h.inside n e at in let l = keeps_length was made keeps in omega (arith, w, l);
 }
 
-pub inside_grown : (made : List Made) (asked now : List Asked) (key : Asked) → Grows asked now key → key.subject < length made →
+pub inside_grown : (made : List Made) (asked now : List Asked) (key : Asked) → Grows asked now key →
+    key.subject < length made →
     AreInside made asked → AreInside made now
 inside_grown made asked now key grows less h = record {
   inside = λ n e at. elim (grows.old n e at) [
@@ -36,8 +38,13 @@ length_more [] x = refl
 length_more (y ∷ xs) x = let h = length_more xs x in omega (arith, h)
 
 -- nothing is asked yet
-pub none_asked : (all : List ℕ) (asked : List Asked) (rule : Rule) (bound : ℕ) → AreAsked all asked asked rule bound 0 []
-none_asked all asked rule bound = record { keeps = keeps_same asked; is_count = refl; each = λ place number e. absurd cc }
+pub none_asked : (all : List ℕ) (asked : List Asked) (rule : Rule) (bound : ℕ) →
+    AreAsked all asked asked rule bound 0 []
+none_asked all asked rule bound = record {
+  keeps = keeps_same asked;
+  is_count = refl;
+  each = λ place number e. absurd cc;
+}
 
 still_asks : (all : List ℕ) (asked now : List Asked) (bound : ℕ) (clause : Clause) (number : ℕ) → Keeps asked now →
     AsksClause all asked bound clause number → AsksClause all now bound clause number
@@ -53,25 +60,35 @@ pub asked_more : (all : List ℕ) (was asked now : List Asked) (rule : Rule) (bo
     slice_get rule.clauses.items count ≡ Some clause → slice_get all clause.shape ≡ Some subject → Keeps asked now →
     slice_get now number ≡ Some (record { subject = subject; bound = bound_of bound clause.bound }) →
     more ≡ questions ++ number ∷ [] → AreAsked all was now rule bound (count + 1) more
-asked_more all was asked now rule bound count questions more clause subject number a at there keeps is_asked is = record {
-  keeps = keeps_then a.keeps keeps;
-  is_count = ap length is ∙ (length_more questions number ∙ ap (λ n. n + 1) a.is_count);
-  each = λ place n e. elim (in_longer questions number place n (subst (λ (l : List ℕ). slice_get l place ≡ Some n) is e)) [
-    | inl w ↦ let old = a.each place n w in (old.0, (old.1.0, still_asks all asked now bound old.0 n keeps old.1.1))
-    | inr w ↦ (
-      clause,
-      (
-        subst (λ p. slice_get rule.clauses.items p ≡ Some clause) (sym (w.0 ∙ a.is_count)) at,
-        subst (λ m. AsksClause all now bound clause m) (sym w.1)
-            (record { subject = subject; stands_there = there; is_asked = is_asked }),
-      ),
-    )
-  ];
-}
+asked_more all was asked now rule bound count questions more clause subject number a at there keeps is_asked is =
+    record {
+      keeps = keeps_then a.keeps keeps;
+      is_count = ap length is ∙ (length_more questions number ∙ ap (λ n. n + 1) a.is_count);
+      each = λ place n e. elim (in_longer questions number place n (subst (λ (l : List ℕ). slice_get l place ≡ Some
+          n) is
+          e)) [
+            | inl w ↦ let old = a.each place n w in (
+              old.0,
+              (
+                old.1.0,
+                still_asks all asked now bound old.0 n keeps old.1.1,
+              ),
+            )
+            | inr w ↦ (
+              clause,
+              (
+                subst (λ p. slice_get rule.clauses.items p ≡ Some clause) (sym (w.0 ∙ a.is_count)) at,
+                subst (λ m. AsksClause all now bound clause m) (sym w.1)
+                    (record { subject = subject; stands_there = there; is_asked = is_asked }),
+              ),
+            )
+          ];
+    }
 
 -- with all clauses asked there is a candidate
 module _ (made : List Made) (was asked : List Asked) (rule : Rule) (bound : ℕ) (term : Term) (all questions : List ℕ)
-    (h : HasInstance made rule term all) (a : AreAsked all was asked rule bound (length rule.clauses.items) questions) where
+    (h : HasInstance made rule term all) (a : AreAsked all was asked rule bound (length rule.clauses.items)
+    questions) where
   is_asked : (clause : Clause) (number : ℕ) → AsksClause all asked bound clause number
       → IsAsked made asked number (h.types clause.shape) (bound_of bound clause.bound)
   is_asked clause number c = record {
@@ -96,7 +113,13 @@ module _ (made : List Made) (was asked : List Asked) (rule : Rule) (bound : ℕ)
             let c = a.each has.0 w.0 w.2 in
             let same : Some c.0 ≡ Some clause = sym c.1.0 ∙ there in
             let sc : c.0 ≡ clause = cc in
-            record { place = has.0; number = w.0; at = w.2; asks = subst (λ k. AsksClause all asked bound k w.0) sc c.1.1 }
+            record {
+              place = has.0;
+              number = w.0;
+              at = w.2;
+              asks = subst (λ k. AsksClause all asked bound k w.0) sc
+                  c.1.1;
+            }
         | inr w ↦ absurd (omega (arith, within, w.0, a.is_count))
       ]
 

@@ -1,5 +1,6 @@
 -- The types of a rule's shapes are made one after another.
-use Rattle.std.proofs.Common.{◌≡◌, ◌<◌, ◌≤◌, ◌+◌, ℕ, zero, suc, ◌⊎◌, inl, inr, List, [], ◌∷◌, ◌++◌, length, take, Option, Some, None}
+use Rattle.std.proofs.Common.{◌≡◌, ◌<◌, ◌≤◌, ◌+◌, ℕ, zero, suc, ◌⊎◌, inl, inr, List, [], ◌∷◌, ◌++◌, length, take}
+use Rattle.std.proofs.Common.{Option, Some, None}
 use Rattle.std.proofs.Common.{refl, sym, ◌∙◌, ap, ap₂, subst, arith}
 use Rattle.std.specs.Prelude.{slice_get}
 use Rattle.std.specs.Option.{IfSome, IsSomeAnd}
@@ -23,7 +24,8 @@ taken [] (suc count) n x e = absurd cc
 taken (y ∷ xs) (suc count) zero x e = (omega arith, e)
 taken (y ∷ xs) (suc count) (suc n) x e = let w = taken xs count n x e in (omega (arith, w.0), w.1)
 
-within : {A : Type 0} (xs : List A) (count n : ℕ) (x : A) → n < count → slice_get xs n ≡ Some x → slice_get (take count xs) n ≡ Some x
+within : {A : Type 0} (xs : List A) (count n : ℕ) (x : A) → n < count → slice_get xs n ≡ Some x →
+    slice_get (take count xs) n ≡ Some x
 within xs zero n x less e = absurd (omega arith)
 within [] (suc count) n x less e = absurd cc
 within (y ∷ xs) (suc count) zero x less e = e
@@ -60,7 +62,8 @@ none_completed made rule found = record {
   told = λ types term t i. record { told = λ place number e. absurd cc };
 }
 
-module _ (was made now : List Made) (rule : Rule) (found : List (Option ℕ)) (count : ℕ) (all more : List ℕ) (shape : Shape)
+module _ (was made now : List Made) (rule : Rule) (found : List (Option ℕ)) (count : ℕ) (all more : List ℕ) (shape :
+    Shape)
     (noted : Option ℕ) (number : ℕ) where
   pub completed_more : AreCompleted was made rule found count all → slice_get rule.shapes.items count ≡ Some shape →
       more ≡ all ++ number ∷ [] → Keeps made now → IsMade now all shape number →
@@ -71,8 +74,14 @@ module _ (was made now : List Made) (rule : Rule) (found : List (Option ℕ)) (c
   completed_more done at is keeps new is_noted told = record {
     keeps = keeps_then done.keeps keeps;
     is_count = subst (λ l. length l ≡ count + 1) (sym is) (longer all number (done.is_count));
-    are_made = record { each = λ place s e. let t = taken rule.shapes.items (count + 1) place s e in each place s t.0 t.1 };
-    told = λ types term t i. record { told = λ place n e. stands types term t i place n (in_longer all number place n (subst (λ l. slice_get l place ≡ Some n) is e)) };
+    are_made = record {
+      each = λ place s e. let t = taken rule.shapes.items (count + 1) place s e in
+          each place s t.0 t.1;
+    };
+    told = λ types term t i. record {
+      told = λ place n e. stands types term t i place n (in_longer all number place n
+          (subst (λ l. slice_get l place ≡ Some n) is e));
+    };
   }
     where
       longer : (xs : List ℕ) (x : ℕ) → length xs ≡ count → length (xs ++ x ∷ []) ≡ count + 1
@@ -88,14 +97,22 @@ module _ (was made now : List Made) (rule : Rule) (found : List (Option ℕ)) (c
       each : (place : ℕ) (s : Shape) → place < count + 1 → slice_get rule.shapes.items place ≡ Some s →
           (n : ℕ) × ((slice_get more place ≡ Some n) × IsMade now more s n)
       each place s less e = elim (split place less) [
-        | inl before ↦ let w = done.are_made.each place s (within rule.shapes.items count place s before e) in
-            (w.0, (lengthens place w.0 w.1.0, still_made made now all more s w.0 keeps lengthens (keeps_length made now keeps) w.1.1))
+        | inl before ↦ let w = done.are_made.each place s (within rule.shapes.items count place s before e) in (
+          w.0,
+          (
+            lengthens place w.0 w.1.0,
+            still_made made now all more s w.0 keeps lengthens (keeps_length made
+                now keeps) w.1.1,
+          ),
+        )
         | inr last ↦
-            let same : Some s ≡ Some shape = sym e ∙ subst (λ p. slice_get rule.shapes.items p ≡ Some shape) (sym last) at in
+            let same : Some s ≡ Some shape = sym e ∙ subst (λ p. slice_get rule.shapes.items p ≡ Some shape) (sym
+            last) at in
             let ss : shape ≡ s = cc in (
               number,
               (
-                subst (λ l. slice_get l place ≡ Some number) (sym is) (at_end all number place (last ∙ sym done.is_count)),
+                subst (λ l. slice_get l place ≡ Some number) (sym is) (at_end all number place (last
+                    ∙ sym done.is_count)),
                 subst (λ q. IsMade now more q number) ss
                     (still_made now now all more shape number (keeps_same now) lengthens (omega arith) new),
               ),
@@ -106,8 +123,10 @@ module _ (was made now : List Made) (rule : Rule) (found : List (Option ℕ)) (c
           split p less = elim (dec_lt p count) [ yes h ↦ inl h | no h ↦ inr (omega (arith, h, less)) ]
 
       stands : (types : ℕ → Term) (term : Term) → AreTold was found types → IsInstance rule types term →
-          (place n : ℕ) → (slice_get all place ≡ Some n) ⊎ ((place ≡ length all) × (n ≡ number)) → Stands now n (types place)
-      stands types term t i place n (inl w) = stands_in keeps n (types place) ((done.told types term t i).told place n w)
+          (place n : ℕ) → (slice_get all place ≡ Some n) ⊎ ((place ≡ length all) × (n ≡ number)) →
+          Stands now n (types place)
+      stands types term t i place n (inl w) = stands_in keeps n (types place) ((done.told types term t i).told place
+          n w)
       stands types term t i place n (inr w) =
           let here : place ≡ count = w.0 ∙ done.is_count in
           subst (λ m. Stands now m (types place)) (sym w.1)
@@ -119,7 +138,8 @@ module _ (was made now : List Made) (rule : Rule) (found : List (Option ℕ)) (c
               IfSome o (λ m. Stands made m (types place))
           noted_stands None h = h
           noted_stands (Some m) h =
-              stands_in done.keeps m (types place) (t.told place m (subst (λ p. slice_get found p ≡ Some (Some m)) (sym w.0) h))
+              stands_in done.keeps m (types place) (t.told place m (subst (λ p. slice_get found p ≡ Some (Some m))
+              (sym w.0) h))
 
 -- all shapes have a type
 pub all_made : (was made : List Made) (rule : Rule) (found : List (Option ℕ)) (count : ℕ) (all : List ℕ) →
@@ -131,7 +151,8 @@ all_made was made rule found count all done past = record {
 
 -- the types of all shapes are those of an instance, and of each
 module _ (was made : List Made) (rule : Rule) (subject : ℕ) (all : List ℕ) (term : Term) (first : ArePartsFirst made)
-    (keeps : Keeps was made) (is_count : length all ≡ length rule.shapes.items) (are : AreMade made rule.shapes.items all)
+    (keeps : Keeps was made) (is_count : length all ≡ length rule.shapes.items) (are : AreMade made rule.shapes.items
+    all)
     (stands : Stands was subject term) where
   -- the type of this number is there
   inside : (shape : Shape) (number : ℕ) → IsMade made all shape number → number < length made
@@ -167,7 +188,8 @@ module _ (was made : List Made) (rule : Rule) (subject : ℕ) (all : List ℕ) (
   shaped : (place : ℕ) (shape : Shape) (number : ℕ) → slice_get all place ≡ Some number → IsMade made all shape number →
       IsShaped types shape (types place)
   shaped place Parameter number e is = tt
-  shaped place (Constructor c) number e is = is_constructor made number c (types place) is (are_told.told place number e)
+  shaped place (Constructor c) number e is = is_constructor made number c (types place) is (are_told.told place
+      number e)
   shaped place (Applied f x) number e is =
       let p = parts_of made number is.0 is.1.0 (types place) is.1.1.1.1 (are_told.told place number e) in
       p.is ∙ ap₂ applied (one_term made is.0 p.first (types f) p.stands_first (are_told.told f is.0 is.1.1.0))
@@ -179,7 +201,8 @@ module _ (was made : List Made) (rule : Rule) (subject : ℕ) (all : List ℕ) (
     types = types;
     is_instance = record {
       shaped = λ place shape e. let m = are.each place shape e in shaped place shape m.0 m.1.0 m.1.1;
-      is_head = one_term made subject (types rule.head) term (are_told.told rule.head subject at_head) (stands_in keeps subject term stands);
+      is_head = one_term made subject (types rule.head) term (are_told.told rule.head subject at_head) (stands_in
+          keeps subject term stands);
     };
     told = are_told;
     each = each;
@@ -192,7 +215,8 @@ pub head_apart : (was made : List Made) (rule : Rule) (subject number : ℕ) (al
     (others : ℕ → Term) → IsInstance rule others term → ⊥
 head_apart was made rule subject number all term once keeps stands at_head other each others is =
     other (one_number made once number subject term
-    (subst (λ t. Stands made number t) is.is_head ((each others is).told rule.head number at_head)) (stands_in keeps subject term stands))
+    (subst (λ t. Stands made number t) is.is_head ((each others is).told rule.head number at_head)) (stands_in keeps
+    subject term stands))
 
 pub nothing_found : {A : Type 0} (P : A → Type 0) (o : Option A) → o ≡ None → IsSomeAnd o P → ⊥
 nothing_found P o is h = let n : IsSomeAnd None P = subst (λ p. IsSomeAnd p P) is h in n

@@ -1,5 +1,6 @@
 -- What is known stays right as types and goals are added.
-use Rattle.std.proofs.Common.{◌≡◌, ◌<◌, ◌≤◌, ◌+◌, ℕ, ◌⊎◌, inl, inr, List, [], ◌∷◌, ◌++◌, length, map, Option, Some, None}
+use Rattle.std.proofs.Common.{◌≡◌, ◌<◌, ◌≤◌, ◌+◌, ℕ, ◌⊎◌, inl, inr, List, [], ◌∷◌, ◌++◌, length, map, Option, Some}
+use Rattle.std.proofs.Common.{None}
 use Rattle.std.proofs.Common.{refl, sym, ◌∙◌, ap, subst, arith}
 use Rattle.std.specs.Prelude.{slice_get, Contains}
 use Rattle.std.proofs.lemmas.List.{map-append}
@@ -10,7 +11,8 @@ use Rattle.trait_rules.specs.declared.rules.Clause.{Clause}
 use Rattle.trait_rules.proofs.Numbers.{at_before, at_end, in_longer, keeps_same, keeps_then}
 use Rattle.trait_rules.proofs.Standing.{has_term, one_term, stands_in}
 use Rattle.trait_goals.specs.Below.{ArePartsFirst, IsInstance, Keeps, Made, Rule, Rules, Stands, Term, constructor_of}
-use Rattle.trait_goals.specs.Known.{AreRight, Covers, HasCandidate, HasRule, IsAsked, IsAskedBy, IsCandidate, IsOfClause, Table, lists_of}
+use Rattle.trait_goals.specs.Known.{AreRight, Covers, HasCandidate, HasRule, IsAsked, IsAskedBy, IsCandidate}
+use Rattle.trait_goals.specs.Known.{IsOfClause, Table, lists_of}
 use Rattle.trait_goals.specs.Trying.{AreInside, AreTried, IsKnownMore, IsNextTried, IsTried, lists_in}
 use Rattle.trait_goals.specs.declared.asked.Asked.{Asked}
 use Rattle.trait_goals.specs.declared.asked.Candidate.{Candidate}
@@ -20,8 +22,10 @@ use Rattle.trait_goals.proofs.Matching.{in_set}
 use native.Mathlib.Decide.{dec_lt}
 
 -- what is asked and what is a candidate stays so
-module _ (was made : List Made) (before asked : List Asked) (keeps_made : Keeps was made) (keeps_asked : Keeps before asked) where
-  still_asked : (number : ℕ) (term : Term) (bound : ℕ) → IsAsked was before number term bound → IsAsked made asked number term bound
+module _ (was made : List Made) (before asked : List Asked) (keeps_made : Keeps was made) (keeps_asked : Keeps before
+    asked) where
+  still_asked : (number : ℕ) (term : Term) (bound : ℕ) → IsAsked was before number term bound →
+      IsAsked made asked number term bound
   still_asked number term bound a = record {
     entry = a.entry;
     at = keeps_asked.at number a.entry a.at;
@@ -29,7 +33,8 @@ module _ (was made : List Made) (before asked : List Asked) (keeps_made : Keeps 
     same_bound = a.same_bound;
   }
 
-  pub still_candidate : (rule : Rule) (bound : ℕ) (term : Term) (questions : List ℕ) → IsCandidate was before rule bound term questions
+  pub still_candidate : (rule : Rule) (bound : ℕ) (term : Term) (questions : List ℕ) →
+      IsCandidate was before rule bound term questions
       → IsCandidate made asked rule bound term questions
   still_candidate rule bound term questions c = record {
     types = c.types;
@@ -47,13 +52,20 @@ module _ (was made : List Made) (before asked : List Asked) (keeps_made : Keeps 
     };
   }
 
-  pub still_rule : (rules : Rules) (bound : ℕ) (term : Term) (questions : List ℕ) → HasRule rules was before bound term questions
+  pub still_rule : (rules : Rules) (bound : ℕ) (term : Term) (questions : List ℕ) →
+      HasRule rules was before bound term questions
       → HasRule rules made asked bound term questions
   still_rule rules bound term questions h =
-      record { rule = h.rule; gives = h.gives; is_candidate = still_candidate h.rule bound term questions h.is_candidate }
+      record {
+        rule = h.rule;
+        gives = h.gives;
+        is_candidate = still_candidate h.rule bound term questions
+            h.is_candidate;
+      }
 
   pub still_has : (rule : Rule) (bound : ℕ) (term : Term) (some more : List (List ℕ)) →
-      ((questions : List ℕ) → Contains some questions → Contains more questions) → HasCandidate was before rule bound term some
+      ((questions : List ℕ) → Contains some questions → Contains more questions) →
+      HasCandidate was before rule bound term some
       → HasCandidate made asked rule bound term more
   still_has rule bound term some more keeps h = record {
     questions = h.questions;
@@ -61,11 +73,13 @@ module _ (was made : List Made) (before asked : List Asked) (keeps_made : Keeps 
     is_candidate = still_candidate rule bound term h.questions h.is_candidate;
   }
 
-  still_covers : (rules : Rules) (bound : ℕ) (term : Term) (candidates : List (List ℕ)) → Covers rules was before bound term candidates
+  still_covers : (rules : Rules) (bound : ℕ) (term : Term) (candidates : List (List ℕ)) →
+      Covers rules was before bound term candidates
       → Covers rules made asked bound term candidates
   still_covers rules bound term candidates h = record {
     each = λ questions has. still_rule rules bound term questions (h.each questions has);
-    all = λ rule types gives is. still_has rule bound term candidates candidates (λ q has. has) (h.all rule types gives is);
+    all = λ rule types gives is. still_has rule bound term candidates candidates (λ q has. has) (h.all rule types
+        gives is);
   }
 
 -- no rule is tried yet
@@ -79,47 +93,52 @@ none_tried rules made asked goal c = record {
 }
 
 -- one more place is tried
-pub tried_more : (rules : Rules) (was made now : List Made) (before asked later : List Asked) (goal : Asked) (c count : ℕ)
+pub tried_more : (rules : Rules) (was made now : List Made) (before asked later : List Asked) (goal : Asked) (c count
+    : ℕ)
     (given : Option Rule) (some more : List (List ℕ)) → AreTried rules was made before asked goal c count some →
     slice_get (rules_for rules goal.bound c) count ≡ Some given → Keeps made now → Keeps asked later →
     ((term : Term) → Stands made goal.subject term → IsNextTried now later goal.bound term given some more) →
     AreTried rules was now before later goal c (count + 1) more
-tried_more rules was made now before asked later goal c count given some more tried at keeps_made keeps_asked next = record {
-  keeps_made = keeps_then tried.keeps_made keeps_made;
-  keeps_asked = keeps_then tried.keeps_asked keeps_asked;
-  each = λ term stands is questions has.
-      let n = next term (stands_in tried.keeps_made goal.subject term stands) in
-      elim (n.each questions has) [
-        | inl w ↦ still_rule made now asked later keeps_made keeps_asked rules goal.bound term questions (tried.each term stands is questions w)
-        | inr w ↦ record {
-          rule = w.0;
-          gives = subst (λ k. Contains (rules_for rules goal.bound k) (Some w.0)) is
-              (Contains-from_slice_get (rules_for rules goal.bound c) count (Some w.0) (at ∙ ap Some w.1.0));
-          is_candidate = w.1.1;
-        }
-      ];
-  all = λ term stands is place rule less there types instance.
-      let n = next term (stands_in tried.keeps_made goal.subject term stands) in
-      elim (dec_lt place count) [
-        | yes h ↦ still_has made now asked later keeps_made keeps_asked rule goal.bound term some more n.keeps
-            (tried.all term stands is place rule h there types instance)
-        | no h ↦
-            let here : place ≡ count = omega (arith, h, less) in
-            let same : Some given ≡ Some (Some rule) =
-            sym at ∙ subst (λ p. slice_get (rules_for rules goal.bound c) p ≡ Some (Some rule)) here there in
-            let so : given ≡ Some rule = cc in n.all rule so types instance
-      ];
-}
+tried_more rules was made now before asked later goal c count given some more tried at keeps_made keeps_asked next =
+    record {
+      keeps_made = keeps_then tried.keeps_made keeps_made;
+      keeps_asked = keeps_then tried.keeps_asked keeps_asked;
+      each = λ term stands is questions has.
+          let n = next term (stands_in tried.keeps_made goal.subject term stands) in
+          elim (n.each questions has) [
+            | inl w ↦ still_rule made now asked later keeps_made keeps_asked rules goal.bound term questions (tried.each
+                term stands is questions w)
+            | inr w ↦ record {
+              rule = w.0;
+              gives = subst (λ k. Contains (rules_for rules goal.bound k) (Some w.0)) is
+                  (Contains-from_slice_get (rules_for rules goal.bound c) count (Some w.0) (at ∙ ap Some w.1.0));
+              is_candidate = w.1.1;
+            }
+          ];
+      all = λ term stands is place rule less there types instance.
+          let n = next term (stands_in tried.keeps_made goal.subject term stands) in
+          elim (dec_lt place count) [
+            | yes h ↦ still_has made now asked later keeps_made keeps_asked rule goal.bound term some more n.keeps
+                (tried.all term stands is place rule h there types instance)
+            | no h ↦
+                let here : place ≡ count = omega (arith, h, less) in
+                let same : Some given ≡ Some (Some rule) =
+                sym at ∙ subst (λ p. slice_get (rules_for rules goal.bound c) p ≡ Some (Some rule)) here there in
+                let so : given ≡ Some rule = cc in n.all rule so types instance
+          ];
+    }
 
 -- all rules are tried
 pub covered : (rules : Rules) (was made : List Made) (before asked : List Asked) (goal : Asked) (c count : ℕ)
     (candidates : List (List ℕ)) → AreTried rules was made before asked goal c count candidates →
-    slice_get (rules_for rules goal.bound c) count ≡ None → (term : Term) → Stands was goal.subject term → c ≡ constructor_of term →
+    slice_get (rules_for rules goal.bound c) count ≡ None → (term : Term) → Stands was goal.subject term →
+    c ≡ constructor_of term →
     Covers rules made asked goal.bound term candidates
 covered rules was made before asked goal c count candidates tried ends term stands is = record {
   each = tried.each term stands is;
   all = λ rule types gives instance.
-      let g : Contains (rules_for rules goal.bound c) (Some rule) = subst (λ k. Contains (rules_for rules goal.bound k) (Some rule)) (sym is) gives in
+      let g : Contains (rules_for rules goal.bound c) (Some rule) = subst (λ k. Contains (rules_for rules goal.bound
+      k) (Some rule)) (sym is) gives in
       let at = slice_get-from_Contains (rules_for rules goal.bound c) (Some rule) g in
       let within = slice_get_within (rules_for rules goal.bound c) g.0 (Some rule) at in
       elim (slice_get_cases (rules_for rules goal.bound c) count).1 [
@@ -134,32 +153,39 @@ pub nothing_next : (made : List Made) (asked : List Asked) (bound : ℕ) (term :
 nothing_next made asked bound term lists =
     record { keeps = λ q has. has; each = λ q has. inl has; all = λ rule e types is. absurd cc }
 
-pub apart_next : (made : List Made) (asked : List Asked) (rule : Rule) (bound : ℕ) (term : Term) (lists : List (List ℕ)) →
+pub apart_next : (made : List Made) (asked : List Asked) (rule : Rule) (bound : ℕ) (term : Term) (lists : List (List
+    ℕ)) →
     ((types : ℕ → Term) → IsInstance rule types term → ⊥) → IsNextTried made asked bound term (Some rule) lists lists
 apart_next made asked rule bound term lists apart = record {
   keeps = λ q has. has;
   each = λ q has. inl has;
-  all = λ other e types is. let so : rule ≡ other = cc in absurd (apart types (subst (λ r. IsInstance r types term) (sym so) is));
+  all = λ other e types is. let so : rule ≡ other = cc in absurd (apart types (subst (λ r. IsInstance r types term)
+      (sym so) is));
 }
 
-pub by_next : (made : List Made) (asked : List Asked) (rule : Rule) (bound : ℕ) (term : Term) (some more : List Candidate)
-    (candidate : Candidate) → more ≡ some ++ candidate ∷ [] → IsCandidate made asked rule bound term candidate.questions.items →
+pub by_next : (made : List Made) (asked : List Asked) (rule : Rule) (bound : ℕ) (term : Term) (some more : List
+    Candidate)
+    (candidate : Candidate) → more ≡ some ++ candidate ∷ [] → IsCandidate made asked rule bound term
+    candidate.questions.items →
     IsNextTried made asked bound term (Some rule) (lists_in some) (lists_in more)
 by_next made asked rule bound term some more candidate is by = record {
   keeps = λ q has.
       let at = slice_get-from_Contains (lists_in some) q has in
       Contains-from_slice_get (lists_in more) has.0 q
-      (subst (λ (l : List (List ℕ)). slice_get l has.0 ≡ Some q) (sym lists) (at_before (lists_in some) own has.0 q at));
+      (subst (λ (l : List (List ℕ)). slice_get l has.0 ≡ Some q) (sym lists) (at_before (lists_in some) own has.0 q
+      at));
   each = λ q has.
       let at = slice_get-from_Contains (lists_in more) q has in
-      elim (in_longer (lists_in some) candidate.questions.items has.0 q (subst (λ (l : List (List ℕ)). slice_get l has.0 ≡ Some q) lists at)) [
+      elim (in_longer (lists_in some) candidate.questions.items has.0 q (subst (λ (l : List (List ℕ)). slice_get l
+      has.0 ≡ Some q) lists at)) [
         | inl w ↦ inl (Contains-from_slice_get (lists_in some) has.0 q w)
         | inr w ↦ inr (rule, (refl, subst (λ l. IsCandidate made asked rule bound term l) (sym w.1) by))
       ];
   all = λ other e types instance. let so : rule ≡ other = cc in record {
     questions = candidate.questions.items;
     is_among = Contains-from_slice_get (lists_in more) (length (lists_in some)) candidate.questions.items
-        (subst (λ (l : List (List ℕ)). slice_get l (length (lists_in some)) ≡ Some candidate.questions.items) (sym lists)
+        (subst (λ (l : List (List ℕ)). slice_get l (length (lists_in some)) ≡ Some candidate.questions.items) (sym
+        lists)
         (at_end (lists_in some) candidate.questions.items (length (lists_in some)) refl));
     is_candidate = subst (λ r. IsCandidate made asked r bound term candidate.questions.items) so by;
   };
@@ -186,29 +212,33 @@ pub known_push : (some more was : List (Option Candidates)) (goal : ℕ) (c : Ca
     ((n : ℕ) (k : Candidates) → slice_get some n ≡ Some (Some k) → slice_get was n ≡ Some (Some k)) →
     more ≡ some ++ Some c ∷ [] → length some ≡ goal → IsKnownMore was more goal c
 known_push some more was goal c keeps is count = record {
-  old = λ n k e. elim (in_longer some (Some c) n (Some k) (subst (λ (l : List (Option Candidates)). slice_get l n ≡ Some (Some k)) is e)) [
-    | inl w ↦ inl (keeps n k w)
-    | inr w ↦ let same : Some k ≡ Some c = w.1 in let sk : k ≡ c = cc in inr (w.0 ∙ count, sk)
-  ];
+  old = λ n k e. elim (in_longer some (Some c) n (Some k) (subst (λ (l : List (Option Candidates)). slice_get l n ≡
+      Some (Some k)) is e)) [
+        | inl w ↦ inl (keeps n k w)
+        | inr w ↦ let same : Some k ≡ Some c = w.1 in let sk : k ≡ c = cc in inr (w.0 ∙ count, sk)
+      ];
 }
 
 pub known_none : (some more was : List (Option Candidates)) → more ≡ some ++ None ∷ [] →
     ((n : ℕ) (k : Candidates) → slice_get some n ≡ Some (Some k) → slice_get was n ≡ Some (Some k)) →
     (n : ℕ) (k : Candidates) → slice_get more n ≡ Some (Some k) → slice_get was n ≡ Some (Some k)
 known_none some more was is keeps n k e =
-    elim (in_longer some None n (Some k) (subst (λ (l : List (Option Candidates)). slice_get l n ≡ Some (Some k)) is e)) [
+    elim (in_longer some None n (Some k) (subst (λ (l : List (Option Candidates)). slice_get l n ≡ Some (Some k)) is
+    e)) [
       | inl w ↦ keeps n k w
       | inr w ↦ let same : Some k ≡ None = w.1 in absurd cc
     ]
 
 pub known_same : (some was : List (Option Candidates)) (goal : ℕ) (c : Candidates) →
-    ((n : ℕ) (k : Candidates) → slice_get some n ≡ Some (Some k) → slice_get was n ≡ Some (Some k)) → IsKnownMore was some goal c
+    ((n : ℕ) (k : Candidates) → slice_get some n ≡ Some (Some k) → slice_get was n ≡ Some (Some k)) →
+    IsKnownMore was some goal c
 known_same some was goal c keeps = record { old = λ n k e. inl (keeps n k e) }
 
 -- right it stays as types and goals are added
 module _ (rules : Rules) (was made : List Made) (before asked : List Asked) (known : List (Option Candidates))
     (right : AreRight (record { rules = rules; made = was; asked = before; known = known }))
-    (keeps_made : Keeps was made) (keeps_asked : Keeps before asked) (first : ArePartsFirst made) (inside : AreInside made asked) where
+    (keeps_made : Keeps was made) (keeps_asked : Keeps before asked) (first : ArePartsFirst made) (inside : AreInside
+    made asked) where
   -- what was right of a goal is right with more types
   still_right : (number : ℕ) (entry : Asked) (candidates : Candidates) → slice_get asked number ≡ Some entry →
       slice_get known number ≡ Some (Some candidates) → (term : Term) → Stands made entry.subject term →
@@ -228,7 +258,8 @@ module _ (rules : Rules) (was made : List Made) (before asked : List Asked) (kno
   pub right_more : AreRight (record { rules = rules; made = made; asked = asked; known = known })
   right_more = record {
     right = still_right;
-    each = λ number candidates is. let old = right.each number candidates is in (old.0, keeps_asked.at number old.0 old.1);
+    each = λ number candidates is. let old = right.each number candidates is in
+        (old.0, keeps_asked.at number old.0 old.1);
     first = first;
     inside = inside.inside;
   }
@@ -257,9 +288,11 @@ module _ (rules : Rules) (was made : List Made) (before asked : List Asked) (kno
     inside = inside.inside;
   }
     where
-      covers_now : (term : Term) → Stands made entry.subject term → Covers rules made asked entry.bound term (lists_of candidates)
+      covers_now : (term : Term) → Stands made entry.subject term →
+          Covers rules made asked entry.bound term (lists_of candidates)
       covers_now term stands =
           let was_term = has_term was right.first entry.subject (right.inside goal entry at) in
           let one : was_term.0 ≡ term =
-          one_term made entry.subject was_term.0 term (stands_in keeps_made entry.subject was_term.0 was_term.1) stands in
+          one_term made entry.subject was_term.0 term (stands_in keeps_made entry.subject was_term.0 was_term.1)
+          stands in
           subst (λ t. Covers rules made asked entry.bound t (lists_of candidates)) one (covers was_term.0 was_term.1)

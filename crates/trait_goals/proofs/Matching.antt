@@ -1,5 +1,6 @@
 -- What a match of a rule's shapes with a type tells.
-use Rattle.std.proofs.Common.{◌≡◌, ◌<◌, ◌≤◌, ℕ, zero, suc, ◌⊎◌, inl, inr, Bool, true, false, List, [], ◌∷◌, ◌++◌, length, Option, Some, None}
+use Rattle.std.proofs.Common.{◌≡◌, ◌<◌, ◌≤◌, ℕ, zero, suc, ◌⊎◌, inl, inr, Bool, true, false, List, [], ◌∷◌, ◌++◌}
+use Rattle.std.proofs.Common.{length, Option, Some, None}
 use Rattle.std.proofs.Common.{refl, sym, ◌∙◌, ap, ap₂, subst, arith}
 use Rattle.std.proofs.Math.ListN.{set}
 use Rattle.std.specs.Prelude.{slice_get}
@@ -25,7 +26,8 @@ in_set (y ∷ xs) (suc i) (suc n) v x e =
 
 module _ (made : List Made) where
   -- a type that is made by a constructor alone
-  pub is_constructor : (number c : ℕ) (t : Term) → slice_get made number ≡ Some (MadeConstructor c) → Stands made number t
+  pub is_constructor : (number c : ℕ) (t : Term) → slice_get made number ≡ Some (MadeConstructor c) →
+      Stands made number t
       → t ≡ constructor c
   is_constructor number c t e s = one_term made number t (constructor c) s (constructor_at e)
 
@@ -44,7 +46,13 @@ module _ (made : List Made) where
   parts_of number g y (applied a b) e (applied_at {f = f} {x = x} i j k) =
       let same : Some (MadeApplied f x) ≡ Some (MadeApplied g y) = sym i ∙ e in
       let sf : f ≡ g = cc in let sx : x ≡ y = cc in
-      record { first = a; second = b; is = refl; stands_first = subst (λ n. Stands made n a) sf j; stands_second = subst (λ n. Stands made n b) sx k }
+      record {
+        first = a;
+        second = b;
+        is = refl;
+        stands_first = subst (λ n. Stands made n a) sf j;
+        stands_second = subst (λ n. Stands made n b) sx k;
+      }
 
   module _ (types : ℕ → Term) where
     pub note_same : (found : List (Option ℕ)) (place number other : ℕ) → IsOnce made → AreTold made found types →
@@ -63,7 +71,8 @@ module _ (made : List Made) where
     }
 
     -- the types of the parts of a shape
-    pub shaped_parts : (f x g y number : ℕ) (t : Term) → slice_get made number ≡ Some (MadeApplied g y) → Stands made number t →
+    pub shaped_parts : (f x g y number : ℕ) (t : Term) → slice_get made number ≡ Some (MadeApplied g y) →
+        Stands made number t →
         IsShaped types (Applied f x) t → Stands made g (types f) × Stands made y (types x)
     shaped_parts f x g y number t e s is =
         let p = parts_of number g y t e s in
@@ -71,17 +80,20 @@ module _ (made : List Made) where
         let a : p.first ≡ types f = cc in let b : p.second ≡ types x = cc in
         (subst (λ u. Stands made g u) a p.stands_first, subst (λ u. Stands made y u) b p.stands_second)
 
-    pub shaped_constructor : (c d number : ℕ) (t : Term) → slice_get made number ≡ Some (MadeConstructor d) → Stands made number t →
+    pub shaped_constructor : (c d number : ℕ) (t : Term) → slice_get made number ≡ Some (MadeConstructor d) →
+        Stands made number t →
         IsShaped types (Constructor c) t → c ≡ d
     shaped_constructor c d number t e s is =
         let same : constructor d ≡ constructor c = sym (is_constructor number d t e s) ∙ is in cc
 
-    pub not_constructor : (c g y number : ℕ) (t : Term) → slice_get made number ≡ Some (MadeApplied g y) → Stands made number t →
+    pub not_constructor : (c g y number : ℕ) (t : Term) → slice_get made number ≡ Some (MadeApplied g y) →
+        Stands made number t →
         IsShaped types (Constructor c) t → ⊥
     not_constructor c g y number t e s is = let p = parts_of number g y t e s in
         let same : applied p.first p.second ≡ constructor c = sym p.is ∙ is in cc
 
-    pub not_applied : (f x d number : ℕ) (t : Term) → slice_get made number ≡ Some (MadeConstructor d) → Stands made number t →
+    pub not_applied : (f x d number : ℕ) (t : Term) → slice_get made number ≡ Some (MadeConstructor d) →
+        Stands made number t →
         IsShaped types (Applied f x) t → ⊥
     not_applied f x d number t e s is =
         let same : constructor d ≡ applied (types f) (types x) = sym (is_constructor number d t e s) ∙ is in cc
@@ -97,7 +109,8 @@ pub head_told : (made : List Made) (rule : Rule) (subject : ℕ) (found : List (
 head_told made rule subject found only types term stands is = record {
   told = λ place number e. let o = only place number e in
       subst (λ p. Stands made number (types p)) (sym o.0)
-      (subst (λ n. Stands made n (types rule.head)) (sym o.1) (subst (λ t. Stands made subject t) (sym is.is_head) stands));
+      (subst (λ n. Stands made n (types rule.head)) (sym o.1) (subst (λ t. Stands made subject t) (sym is.is_head)
+      stands));
 }
 
 pub is_apart : (b : Bool) → b ≡ true → b ≡ false → ⊥
@@ -109,7 +122,8 @@ pub new_constructor : (made : List Made) (types : ℕ → Term) (c number : ℕ)
 new_constructor made types c number term e is = subst (λ t. Stands made number t) (sym is) (constructor_at e)
 
 -- the number of a type with one argument more stands for it
-pub new_applied : (was made : List Made) (all : List ℕ) (first second g y : ℕ) (shape : Shape) (noted found : Option ℕ) →
+pub new_applied : (was made : List Made) (all : List ℕ) (first second g y : ℕ) (shape : Shape) (noted found : Option
+    ℕ) →
     shape ≡ Applied first second → slice_get all first ≡ Some g → slice_get all second ≡ Some y → Keeps was made →
     IfSome found (λ number. slice_get made number ≡ Some (MadeApplied g y)) →
     IfSome found (λ number. (types : ℕ → Term) (term : Term) → AllTold was all types → IsShaped types shape term →
@@ -119,7 +133,8 @@ new_applied was made all first second g y shape noted (Some number) is at_first 
     λ types term told shaped unused.
     let so : term ≡ applied (types first) (types second) = subst (λ s. IsShaped types s term) is shaped in
     subst (λ t. Stands made number t) (sym so)
-    (applied_at made_so (stands_in keeps g (types first) (told.told first g at_first)) (stands_in keeps y (types second) (told.told second y at_second)))
+    (applied_at made_so (stands_in keeps g (types first) (told.told first g at_first)) (stands_in keeps y (types
+    second) (told.told second y at_second)))
 
 -- what was read of a list of found types
 pub read_found : (xs ys : List (Option ℕ)) (place number : ℕ) (o : Option ℕ) → ys ≡ xs → Some o ≡ slice_get ys place →
@@ -133,5 +148,6 @@ some_so P o x is h = let s : IfSome (Some x) P = subst (λ p. IfSome p P) is h i
 pub found_so : {A : Type 0} (P : A → Type 0) (o : Option A) (x : A) → o ≡ Some x → IsSomeAnd o P → P x
 found_so P o x is h = let s : IsSomeAnd (Some x) P = subst (λ p. IsSomeAnd p P) is h in s
 
-pub read_at : {A : Type 0} (xs ys : List A) (place : ℕ) (x : A) → ys ≡ xs → Some x ≡ slice_get ys place → slice_get xs place ≡ Some x
+pub read_at : {A : Type 0} (xs ys : List A) (place : ℕ) (x : A) → ys ≡ xs → Some x ≡ slice_get ys place →
+    slice_get xs place ≡ Some x
 read_at {A} xs ys place x same is = subst (λ (l : List A). slice_get l place ≡ Some x) same (sym is)

@@ -18,8 +18,10 @@ IsFound made rule term (Types all) = HasInstance made rule term all.items
 IsFound made rule term Open = Unit {0}
 
 -- the types of so many shapes
-pub record AreCompleted (was made : List Made) (rule : Rule) (found : List (Option ℕ)) (count : ℕ) (all : List ℕ) : Type 0 where
+pub record AreCompleted (was made : List Made) (rule : Rule) (found : List (Option ℕ)) (count : ℕ) (all : List ℕ) :
+    Type 0 where
   pub keeps : Keeps was made
   pub is_count : length all ≡ count
   pub are_made : AreMade made (take count rule.shapes.items) all
-  pub told : (types : ℕ → Term) (term : Term) → AreTold was found types → IsInstance rule types term → AllTold made all types
+  pub told : (types : ℕ → Term) (term : Term) → AreTold was found types → IsInstance rule types term →
+      AllTold made all types

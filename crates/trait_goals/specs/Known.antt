@@ -18,29 +18,34 @@ pub record IsAsked (made : List Made) (asked : List Asked) (number : ℕ) (term 
   pub same_bound : entry.bound ≡ bound
 
 -- some goal of these asks what the clause of a rule says, where the rule's shapes have these types
-pub record IsAskedBy (made : List Made) (asked : List Asked) (bound : ℕ) (types : ℕ → Term) (questions : List ℕ) (clause : Clause)
+pub record IsAskedBy (made : List Made) (asked : List Asked) (bound : ℕ) (types : ℕ →
+    Term) (questions : List ℕ) (clause : Clause)
     : Type 0 where
   pub number : ℕ
   pub is_question : Contains questions number
   pub is_asked : IsAsked made asked number (types clause.shape) (bound_of bound clause.bound)
 
 -- some clause of the rule says what the goal asks
-pub record IsOfClause (made : List Made) (asked : List Asked) (rule : Rule) (bound : ℕ) (types : ℕ → Term) (number : ℕ) : Type 0 where
+pub record IsOfClause (made : List Made) (asked : List Asked) (rule : Rule) (bound : ℕ) (types : ℕ →
+    Term) (number : ℕ) : Type 0 where
   pub clause : Clause
   pub is_clause : Contains rule.clauses.items clause
   pub is_asked : IsAsked made asked number (types clause.shape) (bound_of bound clause.bound)
 
 -- the goals ask what the rule asks of the type, for which it is one
-pub record IsCandidate (made : List Made) (asked : List Asked) (rule : Rule) (bound : ℕ) (term : Term) (questions : List ℕ)
+pub record IsCandidate (made : List Made) (asked : List Asked) (rule : Rule) (bound : ℕ) (term : Term) (questions :
+    List ℕ)
     : Type 0 where
   pub types : ℕ → Term
   pub is_instance : IsInstance rule types term
-  pub one_instance : (others : ℕ → Term) → IsInstance rule others term → (clause : Clause) → Contains rule.clauses.items clause →
+  pub one_instance : (others : ℕ → Term) → IsInstance rule others term → (clause : Clause) →
+      Contains rule.clauses.items clause →
       others clause.shape ≡ types clause.shape
   pub each : (clause : Clause) → Contains rule.clauses.items clause → IsAskedBy made asked bound types questions clause
   pub only : (number : ℕ) → Contains questions number → IsOfClause made asked rule bound types number
 
-pub record HasRule (rules : Rules) (made : List Made) (asked : List Asked) (bound : ℕ) (term : Term) (questions : List ℕ)
+pub record HasRule (rules : Rules) (made : List Made) (asked : List Asked) (bound : ℕ) (term : Term) (questions :
+    List ℕ)
     : Type 0 where
   pub rule : Rule
   pub gives : Gives rules bound (constructor_of term) rule
@@ -53,10 +58,12 @@ pub record HasCandidate (made : List Made) (asked : List Asked) (rule : Rule) (b
   pub is_candidate : IsCandidate made asked rule bound term questions
 
 -- each candidate is by a rule, and each rule that is one for the type has a candidate
-pub record Covers (rules : Rules) (made : List Made) (asked : List Asked) (bound : ℕ) (term : Term) (candidates : List (List ℕ))
+pub record Covers (rules : Rules) (made : List Made) (asked : List Asked) (bound : ℕ) (term : Term) (candidates :
+    List (List ℕ))
     : Type 0 where
   pub each : (questions : List ℕ) → Contains candidates questions → HasRule rules made asked bound term questions
-  pub all : (rule : Rule) (types : ℕ → Term) → Gives rules bound (constructor_of term) rule → IsInstance rule types term →
+  pub all : (rule : Rule) (types : ℕ → Term) → Gives rules bound (constructor_of term) rule →
+      IsInstance rule types term →
       HasCandidate made asked rule bound term candidates
 
 -- the goals that each candidate asks
@@ -78,7 +85,8 @@ pub record AreRight (table : Table) : Type 0 where
   pub each : (number : ℕ) (candidates : Candidates) → slice_get table.known number ≡ Some (Some candidates) →
       (entry : Asked) × (slice_get table.asked number ≡ Some entry)
   pub first : ArePartsFirst table.made
-  pub inside : (number : ℕ) (entry : Asked) → slice_get table.asked number ≡ Some entry → entry.subject < length table.made
+  pub inside : (number : ℕ) (entry : Asked) → slice_get table.asked number ≡ Some entry →
+      entry.subject < length table.made
 
 -- the candidates of a goal, if they are known
 abbrev pub candidates_at : Table → ℕ → Option Candidates

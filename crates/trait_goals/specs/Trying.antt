@@ -26,11 +26,13 @@ pub record AsksClause (all : List ℕ) (asked : List Asked) (bound : ℕ) (claus
   pub is_asked : slice_get asked number ≡ Some (record { subject = subject; bound = bound_of bound clause.bound })
 
 -- so many clauses are asked, each by the goal at its place
-pub record AreAsked (all : List ℕ) (was asked : List Asked) (rule : Rule) (bound count : ℕ) (questions : List ℕ) : Type 0 where
+pub record AreAsked (all : List ℕ) (was asked : List Asked) (rule : Rule) (bound count : ℕ) (questions : List ℕ) :
+    Type 0 where
   pub keeps : Keeps was asked
   pub is_count : length questions ≡ count
   pub each : (place number : ℕ) → slice_get questions place ≡ Some number →
-      (clause : Clause) × ((slice_get rule.clauses.items place ≡ Some clause) × AsksClause all asked bound clause number)
+      (clause : Clause) × ((slice_get rule.clauses.items place ≡ Some clause)
+      × AsksClause all asked bound clause number)
 
 -- the questions of each candidate
 abbrev pub lists_in : List Candidate → List (List ℕ)
@@ -52,7 +54,8 @@ pub record AreTried (rules : Rules) (was made : List Made) (before asked : List 
   pub keeps_asked : Keeps before asked
   pub each : (term : Term) → Stands was goal.subject term → c ≡ constructor_of term → (questions : List ℕ) →
       Contains candidates questions → HasRule rules made asked goal.bound term questions
-  pub all : (term : Term) → Stands was goal.subject term → c ≡ constructor_of term → (place : ℕ) (rule : Rule) → place < count →
+  pub all : (term : Term) → Stands was goal.subject term → c ≡ constructor_of term → (place : ℕ) (rule : Rule) →
+      place < count →
       slice_get (rules_for rules goal.bound c) place ≡ Some (Some rule) →
       (types : ℕ → Term) → IsInstance rule types term → HasCandidate made asked rule goal.bound term candidates
 

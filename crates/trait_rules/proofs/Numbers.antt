@@ -57,7 +57,8 @@ module _ {K : Type 0} where
       (own : (x : K) → equal x x ≡ true) where
     pub numbered_push : (number number' : K → Option ℕ) (keys all : List K) (key : K) (n : ℕ) →
         AreNumbered number keys → ((m : ℕ) → slice_get keys m ≡ Some key → ⊥) → n ≡ length keys →
-        all ≡ keys ++ key ∷ [] → ((q : K) → number' q ≡ cond (equal key q) (Some n) (number q)) → AreNumbered number' all
+        all ≡ keys ++ key ∷ [] → ((q : K) → number' q ≡ cond (equal key q) (Some n) (number q)) →
+        AreNumbered number' all
     numbered_push number number' keys all key n h none is_length is_all at = rw is_all (record {
       found = λ q m e. found q m (equal key q) refl (sym (at q) ∙ e);
       each = λ q m e. at q ∙ elim (in_longer keys key m q e) [

@@ -28,7 +28,8 @@ module _ (made : List Made) where
   one_term number (applied g y) (applied h z) (applied_at {f = f} {x = x} e i j) (applied_at {f = f'} {x = x'} k l m) =
       let same : Some (Applied f x) ≡ Some (Applied f' x') = sym e ∙ k in
       let sf : f' ≡ f = cc in let sx : x' ≡ x = cc in
-      ap₂ applied (one_term f g h i (subst (λ n. Stands made n h) sf l)) (one_term x y z j (subst (λ n. Stands made n z) sx m))
+      ap₂ applied (one_term f g h i (subst (λ n. Stands made n h) sf l)) (one_term x y z j (subst (λ n. Stands made n
+      z) sx m))
 
   -- a type has one number
   pub one_number : IsOnce made → (n m : ℕ) (t : Term) → Stands made n t → Stands made m t → n ≡ m
@@ -37,14 +38,17 @@ module _ (made : List Made) where
       let sf : f ≡ f' = one_number once f f' g i l in
       let sx : x ≡ x' = one_number once x x' y j o in
       once.same (Applied f x) n m e
-      (subst (λ v. slice_get made m ≡ Some (Applied f v)) (sym sx) (subst (λ v. slice_get made m ≡ Some (Applied v x')) (sym sf) k))
+      (subst (λ v. slice_get made m ≡ Some (Applied f v)) (sym sx) (subst (λ v. slice_get made m ≡ Some (Applied v
+      x')) (sym sf) k))
 
   -- each number of a list stands for a type
   abbrev pub HasTerm : ℕ → Type 0
   HasTerm number = (term : Term) × Stands made number term
 
-  has_by : ArePartsFirst made → ((n : ℕ) (f x : ℕ) → slice_get made n ≡ Some (Applied f x) → (f < length made) × (x < length made))
-      → (most number : ℕ) → number < most → (o : Option Made) → slice_get made number ≡ o → number < length made → HasTerm number
+  has_by : ArePartsFirst made → ((n : ℕ) (f x : ℕ) → slice_get made n ≡ Some (Applied f x) →
+      (f < length made) × (x < length made))
+      → (most number : ℕ) → number < most → (o : Option Made) → slice_get made number ≡ o → number < length made →
+      HasTerm number
   has_by first inside zero number less o e within = absurd (omega arith)
   has_by first inside (suc most) number less None e within = absurd (none number within e)
     where
@@ -66,7 +70,8 @@ module _ (made : List Made) where
   pub has_term : ArePartsFirst made → (number : ℕ) → number < length made → HasTerm number
   has_term first number within =
       has_by first (λ n f x e. let b = first.before n f x e in let w = slice_get_within made n (Applied f x) e in
-      (omega (arith, b.0, w), omega (arith, b.1, w))) (suc number) number (omega arith) (slice_get made number) refl within
+      (omega (arith, b.0, w), omega (arith, b.1, w))) (suc number) number (omega arith) (slice_get made number) refl
+      within
 
   -- what is made by a constructor alone has that one outermost
   pub outermost_is : (number c : ℕ) (t : Term) → slice_get made number ≡ Some (Constructor c) → Stands made number t
@@ -78,12 +83,14 @@ module _ (made : List Made) where
     pub same : (term : Term) → Stands made number term →
         (part : Term) × (Stands made at part × (constructor_of part ≡ constructor_of term))
 
-  pub outermost_part : (number at f x : ℕ) → HasOutermost number at → slice_get made at ≡ Some (Applied f x) → HasOutermost number f
+  pub outermost_part : (number at f x : ℕ) → HasOutermost number at → slice_get made at ≡ Some (Applied f x) →
+      HasOutermost number f
   outermost_part number at f x h e = record { same = λ term s. let p = h.same term s in step p.0 p.1.0 (p.1.1) }
     where
       step : {c : ℕ} (part : Term) → Stands made at part → constructor_of part ≡ c →
           (inner : Term) × (Stands made f inner × (constructor_of inner ≡ c))
-      step (constructor d) (constructor_at i) same = let no : Some (Applied f x) ≡ Some (Constructor d) = sym e ∙ i in absurd cc
+      step (constructor d) (constructor_at i) same = let no : Some (Applied f x) ≡ Some (Constructor d) = sym e
+          ∙ i in absurd cc
       step (applied g y) (applied_at {f = f'} {x = x'} i j k) same =
           let is : Some (Applied f' x') ≡ Some (Applied f x) = sym i ∙ e in
           let sf : f' ≡ f = cc in (g, (subst (λ n. Stands made n g) sf j, same))
@@ -93,7 +100,8 @@ module _ (made : List Made) where
   outermost_found number at c h e term s =
       let p = h.same term s in ap Some (sym (outermost_is at c p.0 e p.1.0) ∙ p.1.1)
 
-  pub never_nothing : (number at : ℕ) → HasOutermost number at → slice_get made at ≡ None → (term : Term) → Stands made number term → ⊥
+  pub never_nothing : (number at : ℕ) → HasOutermost number at → slice_get made at ≡ None → (term : Term) →
+      Stands made number term → ⊥
   never_nothing number at h e term s = let p = h.same term s in by p.0 p.1.0
     where
       by : (part : Term) → Stands made at part → ⊥

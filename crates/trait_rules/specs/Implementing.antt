@@ -62,7 +62,8 @@ fields_rule rules bound c =
 -- the rules of the trait for types of the constructor, in the order in which they are tried
 abbrev pub rules_for : Rules → (bound c : ℕ) → List (Option Rule)
 rules_for rules bound c =
-    map (impl_rule bound) (impls_at rules c) ++ map (λ r. Some r) (blanket_at rules bound) ++ fields_rule rules bound c ∷ []
+    map (impl_rule bound) (impls_at rules c) ++ map (λ r. Some r) (blanket_at rules bound) ++ fields_rule rules bound
+    c ∷ []
 
 abbrev pub Gives : Rules → (bound c : ℕ) → Rule → Type 0
 Gives rules bound c rule = Contains (rules_for rules bound c) (Some rule)
@@ -78,7 +79,13 @@ bound_of asked (OfTrait bound) = bound
 -- what a clause asks
 abbrev pub asks : Rules → (ℕ → Term) → ℕ → Clause → Question Query
 asks rules types bound clause =
-    record { kind = kind_of rules bound; goal = record { subject = types clause.shape; bound = bound_of bound clause.bound } }
+    record {
+      kind = kind_of rules bound;
+      goal = record {
+        subject = types clause.shape;
+        bound = bound_of bound clause.bound;
+      };
+    }
 
 -- some rule is one for the type, and all that it asks is held
 pub record ByRule (rules : Rules) (query : Query) (held : List (Question Query)) : Type 0 where

@@ -16,7 +16,9 @@ impl<'a> Reader<'a> {
         self.cursor.expect(":")?;
         let bounds = self.read_bounds(true, false)?;
         self.cursor.expect("?")?;
-        let types = self.program.types_of(self.alloc, scope.draft.shapes(), &[])?;
+        let types = self
+            .program
+            .types_of(self.alloc, scope.draft.shapes(), &[])?;
         let subject = types.get(shape).copied().ok_or(NoMemory)?;
         for bound in bounds.as_slice() {
             let question = Question {
@@ -72,7 +74,10 @@ impl<'a> Reader<'a> {
             arguments = self.read_arguments()?;
         }
         if arguments.len() != function.arguments {
-            return Err(self.cursor.refusal(token, Problem::Arguments(function.arguments)));
+            return Err(
+                self.cursor
+                    .refusal(token, Problem::Arguments(function.arguments)),
+            );
         }
         self.cursor.expect("(")?;
         self.cursor.expect(")")?;
@@ -103,7 +108,9 @@ impl<'a> Reader<'a> {
                 break;
             }
         }
-        let types = self.program.types_of(self.alloc, scope.draft.shapes(), &[])?;
+        let types = self
+            .program
+            .types_of(self.alloc, scope.draft.shapes(), &[])?;
         let mut arguments = Vec::with_capacity(self.alloc, shapes.len())?;
         for shape in shapes.as_slice() {
             arguments.push(types.get(*shape).copied().ok_or(NoMemory)?)?;
@@ -116,9 +123,13 @@ impl<'a> Reader<'a> {
         for pending in self.pending.as_slice() {
             match pending {
                 Pending::Question(question) => self.program.ask(*question)?,
-                Pending::Call { function, arguments } => {
+                Pending::Call {
+                    function,
+                    arguments,
+                } => {
                     let template = self.templates.get(*function).ok_or(NoMemory)?;
-                    self.program.ask_all(self.alloc, template, arguments.as_slice())?;
+                    self.program
+                        .ask_all(self.alloc, template, arguments.as_slice())?;
                 }
             }
         }

@@ -183,10 +183,16 @@ fn spread_of(alloc: Global, terms: &Terms, number: usize) -> Result<Spread, NoMe
                     arguments,
                 });
             }
-            None => return Ok(Spread { constructor: usize::MAX, arguments }),
+            None => return Ok(Spread {
+                constructor: usize::MAX,
+                arguments,
+            }),
         }
     }
-    Ok(Spread { constructor: usize::MAX, arguments })
+    Ok(Spread {
+        constructor: usize::MAX,
+        arguments,
+    })
 }
 
 // Types with commas between them. The arguments come from the last one on, as pieces do.

@@ -52,7 +52,10 @@ impl<'a> Open<'a> {
 
     // Whether `+` may stand in a type that begins here.
     fn may_have_plus(&self) -> bool {
-        !matches!(self.frames.last(), Some(Frame::Before(_)) | Some(Frame::Result(_)))
+        !matches!(
+            self.frames.last(),
+            Some(Frame::Before(_)) | Some(Frame::Result(_))
+        )
     }
 }
 
@@ -203,7 +206,10 @@ impl<'a> Reader<'a> {
         start: usize,
     ) -> Result<Option<usize>, ReadFault<'a>> {
         if open.parts_from(start).len() != named.arguments {
-            return Err(self.cursor.refusal(token, Problem::Arguments(named.arguments)));
+            return Err(
+                self.cursor
+                    .refusal(token, Problem::Arguments(named.arguments)),
+            );
         }
         self.end_parts(scope, open, named.number, start)
     }
@@ -293,7 +299,10 @@ impl<'a> Reader<'a> {
         let count = self.program.constructor_count();
         let constructor = self.constructor(Key::Dyn(set.unwrap_or(0)))?;
         if constructor == count {
-            self.objects.push(Object { constructor, traits: numbers })?;
+            self.objects.push(Object {
+                constructor,
+                traits: numbers,
+            })?;
             if let Some(form) = self.spelling.forms.get_mut(constructor) {
                 *form = Form::Dyn(names);
             }

@@ -18,18 +18,14 @@ pub(crate) struct Round {
 
 /// How many goals are made known before the first round at most, and how many more after each.
 const FIRST: usize = 1 << 16;
+
 const MORE: usize = 1 << 12;
 
 /// How many rounds there are at most. What is wanted after the last one stays unknown.
 const ROUNDS: usize = 256;
 
 // Makes the goals from this number on known, and those that they bring, up to so many.
-fn expand_from(
-    alloc: Global,
-    goals: &mut Goals,
-    from: usize,
-    most: usize,
-) -> Result<(), NoMemory>
+fn expand_from(alloc: Global, goals: &mut Goals, from: usize, most: usize) -> Result<(), NoMemory>
     ensures { Extends goals.old goals.new }
 {
     for place in 0..most {
@@ -71,10 +67,7 @@ fn ask_all<L: LendsGoals>(
             wanted.push(goal)?;
         }
     }
-    Ok(Round {
-        came,
-        wanted,
-    })
+    Ok(Round { came, wanted })
 }
 
 /// Asks the questions of these goals at this depth, over and over, until no goal is wanted that is not known.

@@ -9,8 +9,10 @@ loop-init c = record { keeps = λ n k e. e; count = omega arith }
 
 pub loop-preserved : goal.loop-preserved
 loop-preserved c = record {
-  keeps = known_none c.loop.known.items c.push.new.self.items c.args.known.now.items c.in_ok-push.ensures.items c.loop.invariant.keeps;
-  count = ap length c.in_ok-push.ensures.items ∙ (length_more c.loop.known.items _ ∙ ap (λ n. n + 1) c.loop.invariant.count);
+  keeps = known_none c.loop.known.items c.push.new.self.items c.args.known.now.items c.in_ok-push.ensures.items
+      c.loop.invariant.keeps;
+  count = ap length c.in_ok-push.ensures.items ∙ (length_more c.loop.known.items _
+      ∙ ap (λ n. n + 1) c.loop.invariant.count);
 }
 
 pub returns-in_err-push : goal.returns-in_err-push
@@ -24,9 +26,11 @@ returns-in_err-push-2 c =
     (λ n k e. c.loop.invariant.keeps n k (subst (λ l. slice_get l n ≡ Some (Some k)) c.in_err-push-2.ensures.items e))
 
 pub returns-then-goal-len : goal.returns-then-goal-len
-returns-then-goal-len c = known_set c.loop.known.items c.args.known.now.items c.args.goal c.args.candidates c.loop.invariant.keeps
+returns-then-goal-len c = known_set c.loop.known.items c.args.known.now.items c.args.goal c.args.candidates
+    c.loop.invariant.keeps
 
 pub returns-in_ok-push-2 : goal.returns-in_ok-push-2
 returns-in_ok-push-2 c =
-    known_push c.loop.known.items c.push-else-goal-len.new.self.items c.args.known.now.items c.args.goal c.args.candidates
+    known_push c.loop.known.items c.push-else-goal-len.new.self.items c.args.known.now.items c.args.goal
+    c.args.candidates
     c.loop.invariant.keeps c.in_ok-push-2.ensures.items (omega (arith, c.loop.invariant.count))

@@ -20,7 +20,8 @@ returns-in_ok-push-in-By-clause-tried c = λ yes term stands.
     let asked = c.try_rule.new.asked in
     subst (λ g. IsNextTried made asked c.args.goal.bound term (option_copied g) (lists_in c.args.all.now.items)
     (lists_in c.push.new.self.items)) (sym c.in-Some.is)
-    (by_next made asked c.in-Some.rule.now c.args.goal.bound term c.args.all.now.items c.push.new.self.items c.in-By.candidate
+    (by_next made asked c.in-Some.rule.now c.args.goal.bound term c.args.all.now.items c.push.new.self.items
+    c.in-By.candidate
     c.in_ok-push-in-By.ensures.items
     (subst (λ t. IsTried made asked c.in-Some.rule.now c.args.goal.bound term t) c.in-By.is
     (c.in_ok-try_rule.ensures.tried term stands)))

@@ -13,7 +13,8 @@ loop-place-preserved c =
     completed_more c.args.terms.now c.loop-place.terms made c.args.rule.now c.args.found.now
     c.loop-place.place all c.push.new.self.items c.in-Some.shape c.noted_at-noted.result c.in-Some-2.number
     c.loop-place.invariant
-    (read_at c.args.rule.now.shapes.items _ c.loop-place.place c.in-Some.shape c.as_slice.ensures.value c.in-Some.ensures)
+    (read_at c.args.rule.now.shapes.items _ c.loop-place.place c.in-Some.shape c.as_slice.ensures.value
+    c.in-Some.ensures)
     c.in_ok-push.ensures.items c.number_of.ensures.keeps
     (subst (λ l. IsMade made l c.in-Some.shape c.in-Some-2.number) c.as_slice-in-loop-place.ensures.value
     (some_so _ _ _ c.in-Some-2.is c.in_ok-number.ensures.made))
@@ -24,5 +25,6 @@ loop-place-preserved c =
 
 pub returns-clause-made : goal.returns-clause-made
 returns-clause-made c =
-    all_made c.args.terms.now c.loop-place.terms c.args.rule.now c.args.found.now c.loop-place.place _ c.loop-place.invariant
+    all_made c.args.terms.now c.loop-place.terms c.args.rule.now c.args.found.now c.loop-place.place _
+    c.loop-place.invariant
     (omega arith)

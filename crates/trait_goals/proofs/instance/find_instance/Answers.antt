@@ -16,7 +16,8 @@ returns-in-Some-at-clause-found c = λ term stands.
     has_instance c.args.terms.now c.complete.new.terms c.args.rule.now c.args.subject c.in-Some-2.all.items term
     c.len.ensures.first c.complete.ensures.keeps (some_so _ _ _ c.in-Some-2.is c.in_ok-all.ensures.count)
     (some_so _ _ _ c.in-Some-2.is c.in_ok-all.ensures.made) stands
-    (read_at _ _ c.args.rule.now.head c.in-Some-at.number c.as_slice-2.ensures.value c.in-Some-at.ensures ∙ ap Some same)
+    (read_at _ _ c.args.rule.now.head c.in-Some-at.number c.as_slice-2.ensures.value c.in-Some-at.ensures
+    ∙ ap Some same)
     (λ others is. some_so _ _ _ c.in-Some-2.is c.in_ok-all.ensures.told others term
     (subst (λ found. AreTold c.args.terms.now found others) (sym c.as_slice.ensures.value)
     (found_so _ _ _ c.in-Some.is (c.in_ok-found.ensures others term stands is))) is)
@@ -24,7 +25,8 @@ returns-in-Some-at-clause-found c = λ term stands.
 pub returns-in-Some-2-at-clause-found : goal.returns-in-Some-2-at-clause-found
 returns-in-Some-2-at-clause-found c = λ term stands.
     let other : c.in-Some-at.number ≡ c.args.subject → ⊥ = λ e. grind (arith, nat_tests, e) in
-    head_apart c.args.terms.now c.complete.new.terms c.args.rule.now c.args.subject c.in-Some-at.number c.in-Some-2.all.items term
+    head_apart c.args.terms.now c.complete.new.terms c.args.rule.now c.args.subject c.in-Some-at.number
+    c.in-Some-2.all.items term
     c.len.ensures.once c.complete.ensures.keeps stands
     (read_at _ _ c.args.rule.now.head c.in-Some-at.number c.as_slice-2.ensures.value c.in-Some-at.ensures) other
     (λ others is. some_so _ _ _ c.in-Some-2.is c.in_ok-all.ensures.told others term

@@ -13,6 +13,8 @@ returns-in_ok-number-in-Constructor-clause-told c = λ types term all shaped not
 
 pub returns-in_ok-number-in-Applied-clause-told : goal.returns-in_ok-number-in-Applied-clause-told
 returns-in_ok-number-in-Applied-clause-told c =
-    new_applied c.args.terms.now c.applied.new.self c.args.all.now c.in-Applied.first c.in-Applied.second c.in-Some-Some.applied
+    new_applied c.args.terms.now c.applied.new.self c.args.all.now c.in-Applied.first c.in-Applied.second
+    c.in-Some-Some.applied
     c.in-Some-Some.argument c.args.shape c.args.noted c.in_ok-number-in-Applied.number c.in-Applied.is
-    (sym c.in-Some-Some.ensures) (sym c.in-Some-Some.ensures') c.applied.ensures.keeps c.in_ok-number-in-Applied.ensures.number
+    (sym c.in-Some-Some.ensures) (sym c.in-Some-Some.ensures') c.applied.ensures.keeps
+    c.in_ok-number-in-Applied.ensures.number

@@ -3,5 +3,6 @@ use Rattle.std.specs.Prelude.{slice_get}
 use Rattle.trait_goals.proofs.instance.with_head.Given as goal
 
 abbrev pub invariant-loop-place : goal.invariant-loop-place
-invariant-loop-place l = (length l.found.items ≡ l.place) × ((place number : ℕ) → slice_get l.found.items place ≡ Some (Some number)
+invariant-loop-place l = (length l.found.items ≡ l.place) × ((place number : ℕ) →
+    slice_get l.found.items place ≡ Some (Some number)
     → (place ≡ l.rule.head) × (number ≡ l.subject))

@@ -22,7 +22,8 @@ invariant_of-self-in_err-note_known c =
     right_known c.self.inside.rules c.self.inside.terms c.find_candidates-found.new.terms c.self.inside.asked
     c.find_candidates-found.new.asked c.self.inside.known.items c.self.invariant c.find_candidates-found.ensures.made
     c.find_candidates-found.ensures.asked c.len-count.ensures.first
-    (c.find_candidates-found.ensures.inside (record { inside = c.self.invariant.inside })) c.note_known.new.known.items c.args.goal
+    (c.find_candidates-found.ensures.inside (record { inside = c.self.invariant.inside }))
+    c.note_known.new.known.items c.args.goal
     c.in-Some.asked c.in-Some-2.candidates (sym c.in-Some.ensures.value) c.note_known.ensures
     (some_so _ _ _ c.in-Some-2.is c.in_ok-candidates.ensures.covers)
 
@@ -31,6 +32,7 @@ invariant_of-self-2 c =
     right_known c.self.inside.rules c.self.inside.terms c.find_candidates-found.new.terms c.self.inside.asked
     c.find_candidates-found.new.asked c.self.inside.known.items c.self.invariant c.find_candidates-found.ensures.made
     c.find_candidates-found.ensures.asked c.len-count.ensures.first
-    (c.find_candidates-found.ensures.inside (record { inside = c.self.invariant.inside })) c.note_known.new.known.items c.args.goal
+    (c.find_candidates-found.ensures.inside (record { inside = c.self.invariant.inside }))
+    c.note_known.new.known.items c.args.goal
     c.in-Some.asked c.in-Some-2.candidates (sym c.in-Some.ensures.value) c.note_known.ensures
     (some_so _ _ _ c.in-Some-2.is c.in_ok-candidates.ensures.covers)

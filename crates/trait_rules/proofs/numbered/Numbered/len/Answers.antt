@@ -4,4 +4,5 @@ use Rattle.trait_rules.proofs.Numbers.{is_once}
 use Rattle.trait_rules.proofs.numbered.Numbered.len.Goals as goal
 
 pub returns-clause-once : goal.returns-clause-once
-returns-clause-once g c = subst (λ keys. IsOnce keys) c.self.view_is (is_once _ c.self.inside.keys.items c.self.invariant)
+returns-clause-once g c = subst (λ keys. IsOnce keys) c.self.view_is (is_once _ c.self.inside.keys.items
+    c.self.invariant)
