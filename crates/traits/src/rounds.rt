@@ -1,6 +1,8 @@
 //! Questions are asked in rounds, until all goals that they want are known.
-ghost use Rattle.std.specs.Prelude.{◌≡◌};
+ghost use Rattle.std.specs.Prelude.{◌≡◌, IfOk};
+ghost use Rattle.trait_answers.specs.Asking.{known_by};
 ghost use Rattle.trait_goals.specs.Trying.{Extends};
+ghost use Rattle.traits.specs.Right.{AreRight, IsRight};
 
 use search_context::context::{Fault, NoMemory};
 use std::alloc::Global;
@@ -47,6 +49,21 @@ fn expand_each(alloc: Global, goals: &mut Goals, wanted: &[usize]) -> Result<(),
     Ok(())
 }
 
+// Asks a goal.
+fn ask<L: LendsGoals>(
+    answers: &mut Answers<L>,
+    goal: usize,
+    depth: usize,
+) -> Result<Outcome, Fault<usize, Outcome>>
+    ensures right { IsRight (known_by L.table_of answers.old) goal result }
+    ensures same_goals { known_by L.table_of answers.new ≡ known_by L.table_of answers.old }
+{
+    match answers.implements(goal, depth) {
+        Ok(answered) => Ok(answered.outcome),
+        Err(fault) => Err(fault),
+    }
+}
+
 // Asks each of these goals.
 fn ask_all<L: LendsGoals>(
     alloc: Global,
@@ -54,12 +71,14 @@ fn ask_all<L: LendsGoals>(
     count: usize,
     asked: &[usize],
     depth: usize,
-) -> Result<Round, NoMemory> {
+) -> Result<Round, NoMemory>
+    ensures { IfOk result (λ round. AreRight (L.table_of lender) asked.now round.came.items) }
+{
     let mut answers = Answers::<L>::new(alloc, lender);
     let mut came = Vec::new(alloc);
     for goal in asked {
-        let answered = answers.implements(*goal, depth);
-        came.push(answered.map(|it| it.outcome))?;
+        let answer = ask(&mut answers, *goal, depth);
+        came.push(answer)?;
     }
     let mut wanted = Vec::new(alloc);
     for goal in 0..count {
@@ -76,7 +95,9 @@ pub(crate) fn ask_in_rounds(
     goals: &mut Goals,
     asked: &[usize],
     depth: usize,
-) -> Result<Vec<Result<Outcome, Fault<usize, Outcome>>>, NoMemory> {
+) -> Result<Vec<Result<Outcome, Fault<usize, Outcome>>>, NoMemory>
+    ensures { IfOk result (λ came. AreRight goals.old asked.now came.items) }
+{
     expand_from(alloc, goals, 0, goals.len().saturating_add(FIRST))?;
     let mut round = ask_all::<&Goals>(alloc, &*goals, goals.len(), asked, depth)?;
     for _ in 0..ROUNDS {

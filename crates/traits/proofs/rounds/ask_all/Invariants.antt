@@ -1,0 +1,11 @@
+use Rattle.std.proofs.Common.{◌≡◌, length}
+use Rattle.trait_answers.specs.Asking.{known_by}
+use Rattle.traits.specs.Right.{AreRight}
+use Rattle.traits.proofs.rounds.ask_all.Given as goal
+
+abbrev pub invariant-loop-goal : goal.invariant-loop-goal
+invariant-loop-goal g l = record {
+  same : known_by g.L.LendsGoals.table_of l.answers ≡ g.L.LendsGoals.table_of l.fn.lender;
+  count : length l.came.items ≡ l.goal-index;
+  right : AreRight (g.L.LendsGoals.table_of l.fn.lender) l.asked l.came.items;
+}

@@ -1,0 +1,17 @@
+-- What the answers of goals say of types and traits.
+use Rattle.std.specs.Prelude.{◌≡◌, ℕ, List, length, slice_get, Some, Result, Ok}
+use Rattle.delegate_parts.specs.declared.outcome.Outcome.{Outcome}
+use Rattle.delegate_parts.specs.declared.outcome.Outcome.TheVariants.{No, Yes}
+use Rattle.search_context.specs.declared.context.Fault.{Fault}
+use Rattle.trait_goals.specs.Known.{Table}
+use Rattle.trait_answers.specs.Answered.{IsImplemented, IsNotImplemented}
+
+-- a yes says that its goal's type implements its trait, and a no that it does not
+pub record IsRight (table : Table) (goal : ℕ) (came : Result Outcome (Fault ℕ Outcome)) : Type 0 where
+  pub yes : came ≡ Ok Yes → IsImplemented table goal
+  pub no : came ≡ Ok No → IsNotImplemented table goal
+
+-- each goal has an answer that is right
+pub record AreRight (table : Table) (goals : List ℕ) (came : List (Result Outcome (Fault ℕ Outcome))) : Type 0 where
+  pub each : (place goal : ℕ) (answer : Result Outcome (Fault ℕ Outcome)) → slice_get goals place ≡ Some goal →
+      slice_get came place ≡ Some answer → IsRight table goal answer
