@@ -2,7 +2,7 @@
 
 use crate::declarations::Question;
 use crate::draft::Draft;
-use crate::reader::{Pending, Reader};
+use crate::reader::{Object, Pending, Reader};
 use crate::refusal::{Problem, ReadFault};
 use crate::scope::Scope;
 use search_context::context::NoMemory;
@@ -16,7 +16,9 @@ impl<'a> Reader<'a> {
         self.cursor.expect(":")?;
         let bounds = self.read_bounds(true, false)?;
         self.cursor.expect("?")?;
-        let types = self.program.types_of(self.alloc, scope.draft.shapes(), &[])?;
+        let types = self
+            .program
+            .types_of(self.alloc, scope.draft.shapes(), &[])?;
         let subject = types.get(shape).copied().ok_or(NoMemory)?;
         for bound in bounds.as_slice() {
             let question = Question {
@@ -72,7 +74,10 @@ impl<'a> Reader<'a> {
             arguments = self.read_arguments()?;
         }
         if arguments.len() != function.arguments {
-            return Err(self.cursor.refusal(token, Problem::Arguments(function.arguments)));
+            return Err(
+                self.cursor
+                    .refusal(token, Problem::Arguments(function.arguments)),
+            );
         }
         self.cursor.expect("(")?;
         self.cursor.expect(")")?;
@@ -86,24 +91,11 @@ impl<'a> Reader<'a> {
 
     // Types in angle brackets.
     fn read_arguments(&mut self) -> Result<Vec<usize>, ReadFault<'a>> {
-        self.cursor.expect("<")?;
         let mut scope = Scope::new(self.alloc);
-        let mut shapes = Vec::new(self.alloc);
-        for _ in 0..u64::MAX {
-            if self.cursor.take(b">")? {
-                break;
-            }
-            if self.cursor.token().is_lifetime() {
-                self.cursor.next()?;
-            } else {
-                shapes.push(self.read_type(&mut scope)?)?;
-            }
-            if !self.cursor.take(b",")? {
-                self.cursor.expect(">")?;
-                break;
-            }
-        }
-        let types = self.program.types_of(self.alloc, scope.draft.shapes(), &[])?;
+        let shapes = self.read_shapes(&mut scope)?;
+        let types = self
+            .program
+            .types_of(self.alloc, scope.draft.shapes(), &[])?;
         let mut arguments = Vec::with_capacity(self.alloc, shapes.len())?;
         for shape in shapes.as_slice() {
             arguments.push(types.get(*shape).copied().ok_or(NoMemory)?)?;
@@ -111,14 +103,39 @@ impl<'a> Reader<'a> {
         Ok(arguments)
     }
 
+    // The shapes of types in angle brackets.
+    fn read_shapes(&mut self, scope: &mut Scope<'a>) -> Result<Vec<usize>, ReadFault<'a>> {
+        self.cursor.expect("<")?;
+        let mut shapes = Vec::new(self.alloc);
+        for _ in 0..u64::MAX {
+            if self.cursor.take(b">")? {
+                return Ok(shapes);
+            }
+            if self.cursor.token().is_lifetime() {
+                self.cursor.next()?;
+            } else {
+                shapes.push(self.read_type(scope)?)?;
+            }
+            if !self.cursor.take(b",")? {
+                self.cursor.expect(">")?;
+                return Ok(shapes);
+            }
+        }
+        Err(ReadFault::Memory)
+    }
+
     /// Asks all that was read, in its order.
     pub(crate) fn ask_all(&mut self) -> Result<(), NoMemory> {
         for pending in self.pending.as_slice() {
             match pending {
                 Pending::Question(question) => self.program.ask(*question)?,
-                Pending::Call { function, arguments } => {
+                Pending::Call {
+                    function,
+                    arguments,
+                } => {
                     let template = self.templates.get(*function).ok_or(NoMemory)?;
-                    self.program.ask_all(self.alloc, template, arguments.as_slice())?;
+                    self.program
+                        .ask_all(self.alloc, template, arguments.as_slice())?;
                 }
             }
         }
@@ -127,28 +144,38 @@ impl<'a> Reader<'a> {
 
     /// Each `dyn` type implements the traits that it names, and those above them.
     pub(crate) fn implement_objects(&mut self) -> Result<(), NoMemory> {
-        for object in self.objects.as_slice() {
-            let mut is_met = vec![in self.alloc; false; self.above.len()]?;
-            let mut left = Vec::from_slice(self.alloc, object.traits.as_slice())?;
-            for _ in 0..u64::MAX {
-                let Some(number) = left.pop() else {
-                    break;
-                };
-                let Some(met) = is_met.get_mut(number) else {
-                    continue;
-                };
-                if *met {
-                    continue;
-                }
-                *met = true;
-                if let Some(above) = self.above.get(number) {
-                    left.extend_from_slice(above.as_slice())?;
-                }
-                let mut draft = Draft::new(self.alloc);
-                let head = draft.constructor(object.constructor)?;
-                self.program.implement(number, draft, head, true)?;
-            }
+        let objects = mem::replace(&mut self.objects, Vec::new(self.alloc));
+        for object in objects.as_slice() {
+            self.implement_object(object)?;
         }
         Ok(())
+    }
+
+    fn implement_object(&mut self, object: &Object) -> Result<(), NoMemory> {
+        let mut is_met = vec![in self.alloc; false; self.above.len()]?;
+        let mut left = Vec::from_slice(self.alloc, object.traits.as_slice())?;
+        for _ in 0..u64::MAX {
+            let Some(number) = left.pop() else {
+                break;
+            };
+            if !meet(is_met.as_mut_slice(), number) {
+                continue;
+            }
+            if let Some(above) = self.above.get(number) {
+                left.extend_from_slice(above.as_slice())?;
+            }
+            let mut draft = Draft::new(self.alloc);
+            let head = draft.constructor(object.constructor)?;
+            self.program.implement(number, draft, head, true)?;
+        }
+        Ok(())
+    }
+}
+
+// Whether the number is met for the first time.
+fn meet(is_met: &mut [bool], number: usize) -> bool {
+    match is_met.get_mut(number) {
+        Some(met) => !mem::replace(met, true),
+        None => false,
     }
 }

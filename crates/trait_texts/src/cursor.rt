@@ -21,10 +21,7 @@ impl<'a> Cursor<'a> {
             file: source.name,
             rest: source.text,
             line: 1,
-            token: Token {
-                text: b"",
-                line: 1,
-            },
+            token: Token { text: b"", line: 1 },
         };
         cursor.next()?;
         Ok(cursor)
@@ -155,7 +152,9 @@ mod tests {
                 break;
             }
         }
-        assert!(rt; all.as_slice() == b"struct List < 'a , T > ( & 'a T ) ; fn -> :: \"12\" ".as_slice());
+        assert!(rt;
+            all.as_slice() == b"struct List < 'a , T > ( & 'a T ) ; fn -> :: \"12\" ".as_slice()
+        );
         assert_eq!(rt; cursor.token().line, 3);
         Ok(())
     }

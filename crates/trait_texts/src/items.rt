@@ -157,7 +157,8 @@ impl<'a> Reader<'a> {
         self.read_where(&mut scope)?;
         self.cursor.expect("{")?;
         self.cursor.expect("}")?;
-        self.program.implement(number, scope.draft, head, is_positive)?;
+        self.program
+            .implement(number, scope.draft, head, is_positive)?;
         Ok(())
     }
 
@@ -260,7 +261,11 @@ impl<'a> Reader<'a> {
 
 // Whether a type may begin so.
 fn begins_type(token: Token<'_>) -> bool {
-    token.is_name() || matches!(token.text, b"(" | b"[" | b"&" | b"*" | b"!" | b"fn" | b"dyn")
+    token.is_name()
+        || matches!(
+            token.text,
+            b"(" | b"[" | b"&" | b"*" | b"!" | b"fn" | b"dyn"
+        )
 }
 
 // The number that the digits say, of which there may be nine.
@@ -273,7 +278,9 @@ fn number_of(digits: &[u8]) -> Option<usize> {
         if !digit.is_ascii_digit() {
             return None;
         }
-        number = number.checked_mul(10)?.checked_add((*digit - b'0') as usize)?;
+        number = number
+            .checked_mul(10)?
+            .checked_add((*digit - b'0') as usize)?;
     }
     Some(number)
 }

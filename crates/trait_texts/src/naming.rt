@@ -56,7 +56,8 @@ impl<'a> Reader<'a> {
         let arguments = self.count_parameters()?;
         let number = self.templates.len();
         self.templates.push(Draft::new(self.alloc))?;
-        self.functions.insert(token.text, Named { number, arguments })?;
+        self.functions
+            .insert(token.text, Named { number, arguments })?;
         Ok(())
     }
 

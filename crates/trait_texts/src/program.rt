@@ -131,12 +131,7 @@ impl Program {
     }
 
     // An impl for the constructor.
-    fn list(
-        &mut self,
-        constructor: usize,
-        bound: usize,
-        rule: Option<Rule>,
-    ) -> Result<(), NoMemory>
+    fn list(&mut self, constructor: usize, bound: usize, rule: Option<Rule>) -> Result<(), NoMemory>
         requires { IfSome rule (IsRuleOf constructor) }
     {
         let Some(found) = self.rules.constructors.get_mut(constructor) else {

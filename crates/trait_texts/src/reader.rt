@@ -17,8 +17,8 @@ const DEPTH: usize = 128;
 
 /// The types that are built in and have a name.
 const PRIMITIVES: [&[u8]; 18] = [
-    b"!", b"bool", b"char", b"str", b"i8", b"i16", b"i32", b"i64", b"i128", b"isize", b"u8", b"u16", b"u32", b"u64",
-    b"u128", b"usize", b"f32", b"f64",
+    b"!", b"bool", b"char", b"str", b"i8", b"i16", b"i32", b"i64", b"i128", b"isize", b"u8",
+    b"u16", b"u32", b"u64", b"u128", b"usize", b"f32", b"f64",
 ];
 
 /// A type or a function of this name: its number, and how many types it takes.
@@ -112,7 +112,13 @@ impl<'a> Reader<'a> {
         };
         for name in PRIMITIVES {
             let number = reader.add_constructor(Form::Path(name))?;
-            reader.types.insert(name, Named { number, arguments: 0 })?;
+            reader.types.insert(
+                name,
+                Named {
+                    number,
+                    arguments: 0,
+                },
+            )?;
             reader.enter_fields(number, 0, 0)?;
         }
         Ok(reader)

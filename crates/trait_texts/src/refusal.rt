@@ -65,7 +65,11 @@ impl<'a> Refusal<'a> {
         write!(told, ":{line}: ")?;
         text.extend_from_slice(self.file)?;
         text.extend_from_slice(told.as_bytes())?;
-        text.extend_from_slice(if self.word.is_empty() { b"end" } else { self.word })?;
+        text.extend_from_slice(if self.word.is_empty() {
+            b"end"
+        } else {
+            self.word
+        })?;
         told.clear();
         write!(told, ": {problem}")?;
         text.extend_from_slice(told.as_bytes())?;

@@ -17,5 +17,5 @@ invariant_of-self-2 c =
     (each_set _ c.self.inside.rules.traits.items c.args.bound c.in-Some.found.now _
     c.self.invariant.sound.traits c.in-Some.ensures.value
     (λ a. each_push _ c.in-Some.found.now.blanket.items c.push.new.self.items c.args.rule a c.requires
-      c.in_ok-push.ensures.items))
+    c.in_ok-push.ensures.items))
     (length_set_le c.self.inside.rules.traits.items c.args.bound _)
