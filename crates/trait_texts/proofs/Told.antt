@@ -25,7 +25,8 @@ pub told_constructors : (rules rules' : Rules) (made : List Made) (questions : L
 told_constructors rules rules' made questions h same each = record {
   sound = record {
     constructors = each;
-    traits = subst (λ ts. Each (λ _ (t : KnownTrait). Each (λ _ rule. IsWellFormed rule) t.blanket.items) ts) (sym same) h.sound.traits;
+    traits = subst (λ ts. Each (λ _ (t : KnownTrait). Each (λ _ rule. IsWellFormed rule) t.blanket.items) ts)
+        (sym same) h.sound.traits;
   };
   asked = subst (λ ts. AreAsked (length ts) (length made) questions) (sym same) h.asked;
 }
