@@ -7,6 +7,7 @@
 //! | `reuse`, `rebasing` | the provisional cache: which entries are used, cleared and rebased |
 //! | `stored`, `nodes` | the global cache: stored results, nodes, and graphs that are handed out |
 //! | `components` | strongly connected components |
+//! | `declarations` | texts that declare types and traits, and types as texts |
 //! | `random` | numbers that look random |
 //! | `faults` | the texts of faults |
 //!
@@ -15,6 +16,7 @@
 
 mod candidates;
 mod components;
+mod declarations;
 mod depths;
 mod entries;
 mod faults;

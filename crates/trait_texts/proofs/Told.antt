@@ -1,13 +1,12 @@
 -- What the reading keeps as it goes on.
-use Rattle.std.proofs.Common.{◌≡◌, ◌<◌, ◌≤◌, ◌+◌, ℕ, List, [], ◌∷◌, ◌++◌, length, set, subst, sym, arith}
+use Rattle.std.proofs.Common.{◌≡◌, ◌≤◌, ℕ, List, [], ◌∷◌, ◌++◌, length, set, subst, sym, arith}
 use Rattle.std.proofs.lemmas.List.{length-set, length_push}
 use Rattle.trait_rules.specs.Numbered.{Keeps}
 use Rattle.trait_rules.specs.declared.made.Made.{Made}
-use Rattle.trait_rules.specs.declared.rules.Constructor.{Constructor as Known}
 use Rattle.trait_rules.specs.declared.rules.Rules.{Rules}
 use Rattle.trait_rules.specs.declared.rules.Trait.{Trait as KnownTrait}
 use Rattle.trait_texts.specs.declared.declarations.Question.{Question}
-use Rattle.trait_texts.specs.WellFormed.{AreAsked, AreSound, Each, IsAbout, IsTold, IsWellFormed}
+use Rattle.trait_texts.specs.WellFormed.{AreAsked, Each, IsAbout, IsTold, IsWellFormed}
 use Rattle.trait_texts.proofs.Each.{each_weaker, keeps_within}
 
 -- more types
@@ -25,8 +24,8 @@ pub told_constructors : (rules rules' : Rules) (made : List Made) (questions : L
 told_constructors rules rules' made questions h same each = record {
   sound = record {
     constructors = each;
-    traits = subst (λ ts. Each (λ _ (t : KnownTrait). Each (λ _ rule. IsWellFormed rule) t.blanket.items) ts) (sym
-        same) h.sound.traits;
+    traits = subst (λ ts. Each (λ _ (t : KnownTrait). Each (λ _ rule. IsWellFormed rule) t.blanket.items) ts)
+        (sym same) h.sound.traits;
   };
   asked = subst (λ ts. AreAsked (length ts) (length made) questions) (sym same) h.asked;
 }

@@ -2,7 +2,7 @@
 
 use crate::declarations::Question;
 use crate::draft::Draft;
-use crate::reader::{Pending, Reader};
+use crate::reader::{Object, Pending, Reader};
 use crate::refusal::{Problem, ReadFault};
 use crate::scope::Scope;
 use search_context::context::NoMemory;
@@ -91,23 +91,8 @@ impl<'a> Reader<'a> {
 
     // Types in angle brackets.
     fn read_arguments(&mut self) -> Result<Vec<usize>, ReadFault<'a>> {
-        self.cursor.expect("<")?;
         let mut scope = Scope::new(self.alloc);
-        let mut shapes = Vec::new(self.alloc);
-        for _ in 0..u64::MAX {
-            if self.cursor.take(b">")? {
-                break;
-            }
-            if self.cursor.token().is_lifetime() {
-                self.cursor.next()?;
-            } else {
-                shapes.push(self.read_type(&mut scope)?)?;
-            }
-            if !self.cursor.take(b",")? {
-                self.cursor.expect(">")?;
-                break;
-            }
-        }
+        let shapes = self.read_shapes(&mut scope)?;
         let types = self
             .program
             .types_of(self.alloc, scope.draft.shapes(), &[])?;
@@ -116,6 +101,27 @@ impl<'a> Reader<'a> {
             arguments.push(types.get(*shape).copied().ok_or(NoMemory)?)?;
         }
         Ok(arguments)
+    }
+
+    // The shapes of types in angle brackets.
+    fn read_shapes(&mut self, scope: &mut Scope<'a>) -> Result<Vec<usize>, ReadFault<'a>> {
+        self.cursor.expect("<")?;
+        let mut shapes = Vec::new(self.alloc);
+        for _ in 0..u64::MAX {
+            if self.cursor.take(b">")? {
+                return Ok(shapes);
+            }
+            if self.cursor.token().is_lifetime() {
+                self.cursor.next()?;
+            } else {
+                shapes.push(self.read_type(scope)?)?;
+            }
+            if !self.cursor.take(b",")? {
+                self.cursor.expect(">")?;
+                return Ok(shapes);
+            }
+        }
+        Err(ReadFault::Memory)
     }
 
     /// Asks all that was read, in its order.
@@ -138,28 +144,38 @@ impl<'a> Reader<'a> {
 
     /// Each `dyn` type implements the traits that it names, and those above them.
     pub(crate) fn implement_objects(&mut self) -> Result<(), NoMemory> {
-        for object in self.objects.as_slice() {
-            let mut is_met = vec![in self.alloc; false; self.above.len()]?;
-            let mut left = Vec::from_slice(self.alloc, object.traits.as_slice())?;
-            for _ in 0..u64::MAX {
-                let Some(number) = left.pop() else {
-                    break;
-                };
-                let Some(met) = is_met.get_mut(number) else {
-                    continue;
-                };
-                if *met {
-                    continue;
-                }
-                *met = true;
-                if let Some(above) = self.above.get(number) {
-                    left.extend_from_slice(above.as_slice())?;
-                }
-                let mut draft = Draft::new(self.alloc);
-                let head = draft.constructor(object.constructor)?;
-                self.program.implement(number, draft, head, true)?;
-            }
+        let objects = mem::replace(&mut self.objects, Vec::new(self.alloc));
+        for object in objects.as_slice() {
+            self.implement_object(object)?;
         }
         Ok(())
+    }
+
+    fn implement_object(&mut self, object: &Object) -> Result<(), NoMemory> {
+        let mut is_met = vec![in self.alloc; false; self.above.len()]?;
+        let mut left = Vec::from_slice(self.alloc, object.traits.as_slice())?;
+        for _ in 0..u64::MAX {
+            let Some(number) = left.pop() else {
+                break;
+            };
+            if !meet(is_met.as_mut_slice(), number) {
+                continue;
+            }
+            if let Some(above) = self.above.get(number) {
+                left.extend_from_slice(above.as_slice())?;
+            }
+            let mut draft = Draft::new(self.alloc);
+            let head = draft.constructor(object.constructor)?;
+            self.program.implement(number, draft, head, true)?;
+        }
+        Ok(())
+    }
+}
+
+// Whether the number is met for the first time.
+fn meet(is_met: &mut [bool], number: usize) -> bool {
+    match is_met.get_mut(number) {
+        Some(met) => !mem::replace(met, true),
+        None => false,
     }
 }

@@ -128,34 +128,3 @@ impl<'a> Cursor<'a> {
         })
     }
 }
-
-#[cfg(test)]
-mod tests {
-    use super::*;
-    use std::test::Fail;
-
-    #[test]
-    fn words(rt: HostRuntime) -> Result<(), Fail> {
-        let text = b"struct /* a /* b */ */ List<'a, T>(&'a T);\n// x\n fn->::\"12\"";
-        let mut all = Vec::new(rt.alloc());
-        let mut cursor = match Cursor::new(Source { name: b"-", text }) {
-            Ok(cursor) => cursor,
-            Err(_) => return Ok(()),
-        };
-        for _ in 0..100 {
-            if cursor.word().is_empty() {
-                break;
-            }
-            all.extend_from_slice(cursor.word())?;
-            all.push(b' ')?;
-            if cursor.next().is_err() {
-                break;
-            }
-        }
-        assert!(rt;
-            all.as_slice() == b"struct List < 'a , T > ( & 'a T ) ; fn -> :: \"12\" ".as_slice()
-        );
-        assert_eq!(rt; cursor.token().line, 3);
-        Ok(())
-    }
-}

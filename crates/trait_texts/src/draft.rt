@@ -138,10 +138,8 @@ impl Draft {
         count: usize,
         head: usize,
     ) -> Result<Option<usize>, NoMemory> {
-        let mut is_used = Vec::with_capacity(alloc, count)?;
-        for number in 0..count {
-            is_used.push(number == head)?;
-        }
+        let mut is_used = vec![in alloc; false; count]?;
+        mark(is_used.as_mut_slice(), head);
         for shape in self.shapes.as_slice() {
             if let Shape::Applied(shape, argument) = shape {
                 mark(is_used.as_mut_slice(), *shape);

@@ -72,12 +72,14 @@ impl<'a> Spelling<'a> {
                 None => return Ok(()),
                 Some(Piece::Text(piece)) => text.extend_from_slice(piece)?,
                 Some(Piece::Type(number)) => {
-                    let spread = spread_of(alloc, terms, number)?;
-                    self.lay_out(&mut pieces, terms, &spread)?;
+                    if let Some(spread) = spread_of(alloc, terms, number)? {
+                        self.lay_out(&mut pieces, terms, &spread)?;
+                    }
                 }
                 Some(Piece::Marked(number)) => {
-                    let spread = spread_of(alloc, terms, number)?;
-                    self.lay_out_marked(&mut pieces, terms, &spread)?;
+                    if let Some(spread) = spread_of(alloc, terms, number)? {
+                        self.lay_out_marked(&mut pieces, terms, &spread)?;
+                    }
                 }
             }
         }
@@ -93,46 +95,28 @@ impl<'a> Spelling<'a> {
     ) -> Result<(), NoMemory> {
         let arguments = spread.arguments.as_slice();
         match self.forms.get(spread.constructor) {
-            None => {}
-            Some(Form::Path(name)) => {
-                if !arguments.is_empty() {
-                    pieces.push(Piece::Text(b">"))?;
-                    lay_out_list(pieces, arguments)?;
-                    pieces.push(Piece::Text(b"<"))?;
-                }
-                pieces.push(Piece::Text(name))?;
-            }
-            Some(Form::Before(mark)) => {
-                lay_out_marked_list(pieces, arguments)?;
-                pieces.push(Piece::Text(mark))?;
-            }
-            Some(Form::Slice) => {
-                pieces.push(Piece::Text(b"]"))?;
-                lay_out_list(pieces, arguments)?;
-                pieces.push(Piece::Text(b"["))?;
-            }
+            None => Ok(()),
+            Some(Form::Path(name)) => lay_out_path(pieces, name, arguments),
+            Some(Form::Before(mark)) => lay_out_behind(pieces, mark, arguments),
+            Some(Form::Slice) => lay_out_between(pieces, b"[", arguments, b"]"),
             Some(Form::Array(length)) => {
                 pieces.push(Piece::Text(b"]"))?;
                 pieces.push(Piece::Text(length))?;
-                pieces.push(Piece::Text(b"; "))?;
-                lay_out_list(pieces, arguments)?;
-                pieces.push(Piece::Text(b"["))?;
+                lay_out_between(pieces, b"[", arguments, b"; ")
             }
-            Some(Form::Tuple) => {
-                pieces.push(Piece::Text(if arguments.len() == 1 { b",)" } else { b")" }))?;
-                lay_out_list(pieces, arguments)?;
-                pieces.push(Piece::Text(b"("))?;
+            Some(Form::Tuple) if arguments.len() == 1 => {
+                lay_out_between(pieces, b"(", arguments, b",)")
             }
+            Some(Form::Tuple) => lay_out_between(pieces, b"(", arguments, b")"),
             Some(Form::Function) => {
                 let is_unit = match arguments.first() {
                     Some(last) => self.is_unit(terms, *last),
                     None => false,
                 };
-                lay_out_function(pieces, arguments, is_unit)?;
+                lay_out_function(pieces, arguments, is_unit)
             }
-            Some(Form::Dyn(names)) => lay_out_dyn(pieces, names.as_slice())?,
+            Some(Form::Dyn(names)) => lay_out_dyn(pieces, names.as_slice()),
         }
-        Ok(())
     }
 
     // Whether the type is `()`.
@@ -167,8 +151,8 @@ impl<'a> Spelling<'a> {
     }
 }
 
-// The constructor of the type and its arguments.
-fn spread_of(alloc: Global, terms: &Terms, number: usize) -> Result<Spread, NoMemory> {
+// The constructor of the type and its arguments, if there is such a type.
+fn spread_of(alloc: Global, terms: &Terms, number: usize) -> Result<Option<Spread>, NoMemory> {
     let mut arguments = Vec::new(alloc);
     let mut at = number;
     for _ in 0..terms.len() {
@@ -178,21 +162,15 @@ fn spread_of(alloc: Global, terms: &Terms, number: usize) -> Result<Spread, NoMe
                 at = applied;
             }
             Some(Made::Constructor(constructor)) => {
-                return Ok(Spread {
+                return Ok(Some(Spread {
                     constructor,
                     arguments,
-                });
+                }));
             }
-            None => return Ok(Spread {
-                constructor: usize::MAX,
-                arguments,
-            }),
+            None => return Ok(None),
         }
     }
-    Ok(Spread {
-        constructor: usize::MAX,
-        arguments,
-    })
+    Ok(None)
 }
 
 // Types with commas between them. The arguments come from the last one on, as pieces do.
@@ -206,13 +184,41 @@ fn lay_out_list<'b>(pieces: &mut Vec<Piece<'b>>, arguments: &[usize]) -> Result<
     Ok(())
 }
 
-fn lay_out_marked_list<'b>(
+// The same between two texts.
+fn lay_out_between<'b>(
     pieces: &mut Vec<Piece<'b>>,
+    before: &'b [u8],
+    arguments: &[usize],
+    behind: &'b [u8],
+) -> Result<(), NoMemory> {
+    pieces.push(Piece::Text(behind))?;
+    lay_out_list(pieces, arguments)?;
+    pieces.push(Piece::Text(before))?;
+    Ok(())
+}
+
+fn lay_out_path<'b>(
+    pieces: &mut Vec<Piece<'b>>,
+    name: &'b [u8],
+    arguments: &[usize],
+) -> Result<(), NoMemory> {
+    if !arguments.is_empty() {
+        lay_out_between(pieces, b"<", arguments, b">")?;
+    }
+    pieces.push(Piece::Text(name))?;
+    Ok(())
+}
+
+// A type behind a mark.
+fn lay_out_behind<'b>(
+    pieces: &mut Vec<Piece<'b>>,
+    mark: &'b [u8],
     arguments: &[usize],
 ) -> Result<(), NoMemory> {
     for argument in arguments {
         pieces.push(Piece::Marked(*argument))?;
     }
+    pieces.push(Piece::Text(mark))?;
     Ok(())
 }
 
@@ -222,17 +228,14 @@ fn lay_out_function<'b>(
     arguments: &[usize],
     is_unit: bool,
 ) -> Result<(), NoMemory> {
-    if let Some((last, arguments)) = arguments.split_first() {
-        if is_unit {
-            pieces.push(Piece::Text(b")"))?;
-        } else {
-            pieces.push(Piece::Marked(*last))?;
-            pieces.push(Piece::Text(b") -> "))?;
-        }
-        lay_out_list(pieces, arguments)?;
-        pieces.push(Piece::Text(b"fn("))?;
+    let Some((last, arguments)) = arguments.split_first() else {
+        return Ok(());
+    };
+    if is_unit {
+        return lay_out_between(pieces, b"fn(", arguments, b")");
     }
-    Ok(())
+    pieces.push(Piece::Marked(*last))?;
+    lay_out_between(pieces, b"fn(", arguments, b") -> ")
 }
 
 fn lay_out_dyn<'b>(pieces: &mut Vec<Piece<'b>>, names: &'b [&'b [u8]]) -> Result<(), NoMemory> {

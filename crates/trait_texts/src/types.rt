@@ -79,44 +79,63 @@ impl<'a> Reader<'a> {
         scope: &mut Scope<'a>,
         open: &mut Open<'a>,
     ) -> Result<Option<usize>, ReadFault<'a>> {
-        let start = open.parts.len();
         match self.cursor.word() {
-            b"(" => {
-                self.cursor.next()?;
-                if self.cursor.take(b")")? {
-                    return self.end_tuple(scope, open, start);
-                }
-                open.frames.push(Frame::Parentheses(start))?;
-                Ok(None)
-            }
-            b"[" => {
-                self.cursor.next()?;
-                open.frames.push(Frame::Brackets)?;
-                Ok(None)
-            }
-            b"&" | b"*" => {
-                let key = self.read_mark()?;
-                open.frames.push(Frame::Before(key))?;
-                Ok(None)
-            }
-            b"fn" => {
-                self.cursor.next()?;
-                self.cursor.expect("(")?;
-                if self.cursor.take(b")")? {
-                    return self.begin_result(scope, open, start);
-                }
-                open.frames.push(Frame::Function(start))?;
-                Ok(None)
-            }
+            b"(" => self.begin_parentheses(scope, open),
+            b"[" => self.begin_brackets(open),
+            b"&" | b"*" => self.begin_mark(open),
+            b"fn" => self.begin_function(scope, open),
             b"dyn" => self.read_dyn(scope, open.may_have_plus()),
             b"Self" => self.read_own(scope),
-            b"!" => {
-                let named = self.named_type(self.cursor.token())?;
-                self.cursor.next()?;
-                Ok(Some(scope.draft.constructor(named.number)?))
-            }
+            b"!" => self.read_never(scope),
             _ => self.begin_path(scope, open),
         }
+    }
+
+    fn begin_parentheses(
+        &mut self,
+        scope: &mut Scope<'a>,
+        open: &mut Open<'a>,
+    ) -> Result<Option<usize>, ReadFault<'a>> {
+        self.cursor.next()?;
+        let start = open.parts.len();
+        if self.cursor.take(b")")? {
+            return self.end_tuple(scope, open, start);
+        }
+        open.frames.push(Frame::Parentheses(start))?;
+        Ok(None)
+    }
+
+    fn begin_brackets(&mut self, open: &mut Open<'a>) -> Result<Option<usize>, ReadFault<'a>> {
+        self.cursor.next()?;
+        open.frames.push(Frame::Brackets)?;
+        Ok(None)
+    }
+
+    fn begin_mark(&mut self, open: &mut Open<'a>) -> Result<Option<usize>, ReadFault<'a>> {
+        let key = self.read_mark()?;
+        open.frames.push(Frame::Before(key))?;
+        Ok(None)
+    }
+
+    fn begin_function(
+        &mut self,
+        scope: &mut Scope<'a>,
+        open: &mut Open<'a>,
+    ) -> Result<Option<usize>, ReadFault<'a>> {
+        self.cursor.next()?;
+        self.cursor.expect("(")?;
+        let start = open.parts.len();
+        if self.cursor.take(b")")? {
+            return self.begin_result(scope, open, start);
+        }
+        open.frames.push(Frame::Function(start))?;
+        Ok(None)
+    }
+
+    fn read_never(&mut self, scope: &mut Scope<'a>) -> Result<Option<usize>, ReadFault<'a>> {
+        let named = self.named_type(self.cursor.token())?;
+        self.cursor.next()?;
+        Ok(Some(scope.draft.constructor(named.number)?))
     }
 
     // `&`, `&mut`, `*const` or `*mut`.
@@ -283,17 +302,12 @@ impl<'a> Reader<'a> {
 
     // The constructor of `dyn` with these traits, whatever their order.
     fn object(&mut self, traits: &[usize]) -> Result<usize, ReadFault<'a>> {
-        let mut names = Vec::with_capacity(self.alloc, traits.len())?;
-        for number in traits {
-            names.push(self.spelling.trait_name(*number).unwrap_or(b""))?;
-        }
-        names.sort_unstable();
-        names.dedup();
+        let names = self.sorted_names(traits)?;
+        let mut traits = Vec::with_capacity(self.alloc, names.len())?;
         let mut set = None;
-        let mut numbers = Vec::with_capacity(self.alloc, names.len())?;
         for name in names.as_slice() {
             let number = self.traits.get(*name).copied().unwrap_or(0);
-            numbers.push(number)?;
+            traits.push(number)?;
             set = Some(self.set_with(set, number)?);
         }
         let count = self.program.constructor_count();
@@ -301,13 +315,24 @@ impl<'a> Reader<'a> {
         if constructor == count {
             self.objects.push(Object {
                 constructor,
-                traits: numbers,
+                traits,
             })?;
             if let Some(form) = self.spelling.forms.get_mut(constructor) {
                 *form = Form::Dyn(names);
             }
         }
         Ok(constructor)
+    }
+
+    // The names of these traits, each once.
+    fn sorted_names(&self, traits: &[usize]) -> Result<Vec<&'a [u8]>, ReadFault<'a>> {
+        let mut names = Vec::with_capacity(self.alloc, traits.len())?;
+        for number in traits {
+            names.push(self.spelling.trait_name(*number).unwrap_or(b""))?;
+        }
+        names.sort_unstable();
+        names.dedup();
+        Ok(names)
     }
 
     // The number of a set with one trait more.
@@ -355,34 +380,9 @@ impl<'a> Reader<'a> {
             }
             Frame::Brackets => self.end_brackets(scope, shape),
             Frame::Result(start) => self.end_function(scope, open, start, shape),
-            Frame::Parentheses(start) => {
-                if self.cursor.take(b")")? {
-                    return Ok(Some(shape));
-                }
-                self.cursor.expect(",")?;
-                open.parts.push(shape)?;
-                self.go_on_with_tuple(scope, open, start)
-            }
-            Frame::Tuple(start) => {
-                open.parts.push(shape)?;
-                if self.cursor.take(b",")? {
-                    return self.go_on_with_tuple(scope, open, start);
-                }
-                self.cursor.expect(")")?;
-                self.end_tuple(scope, open, start)
-            }
-            Frame::Function(start) => {
-                open.parts.push(shape)?;
-                if self.cursor.take(b",")? {
-                    if !self.cursor.take(b")")? {
-                        open.frames.push(frame)?;
-                        return Ok(None);
-                    }
-                } else {
-                    self.cursor.expect(")")?;
-                }
-                self.begin_result(scope, open, start)
-            }
+            Frame::Parentheses(start) => self.end_in_parentheses(scope, open, start, shape),
+            Frame::Tuple(start) => self.end_in_tuple(scope, open, start, shape),
+            Frame::Function(start) => self.end_argument(scope, open, start, shape),
             Frame::Path(token, named, start) => {
                 open.parts.push(shape)?;
                 if self.cursor.take(b",")? {
@@ -392,6 +392,57 @@ impl<'a> Reader<'a> {
                 self.end_path(scope, open, token, named, start)
             }
         }
+    }
+
+    // The first type in parentheses, which stand around it alone if no comma follows.
+    fn end_in_parentheses(
+        &mut self,
+        scope: &mut Scope<'a>,
+        open: &mut Open<'a>,
+        start: usize,
+        shape: usize,
+    ) -> Result<Option<usize>, ReadFault<'a>> {
+        if self.cursor.take(b")")? {
+            return Ok(Some(shape));
+        }
+        self.cursor.expect(",")?;
+        open.parts.push(shape)?;
+        self.go_on_with_tuple(scope, open, start)
+    }
+
+    fn end_in_tuple(
+        &mut self,
+        scope: &mut Scope<'a>,
+        open: &mut Open<'a>,
+        start: usize,
+        shape: usize,
+    ) -> Result<Option<usize>, ReadFault<'a>> {
+        open.parts.push(shape)?;
+        if self.cursor.take(b",")? {
+            return self.go_on_with_tuple(scope, open, start);
+        }
+        self.cursor.expect(")")?;
+        self.end_tuple(scope, open, start)
+    }
+
+    // An argument of a function.
+    fn end_argument(
+        &mut self,
+        scope: &mut Scope<'a>,
+        open: &mut Open<'a>,
+        start: usize,
+        shape: usize,
+    ) -> Result<Option<usize>, ReadFault<'a>> {
+        open.parts.push(shape)?;
+        if !self.cursor.take(b",")? {
+            self.cursor.expect(")")?;
+            return self.begin_result(scope, open, start);
+        }
+        if self.cursor.take(b")")? {
+            return self.begin_result(scope, open, start);
+        }
+        open.frames.push(Frame::Function(start))?;
+        Ok(None)
     }
 
     // Behind a comma.

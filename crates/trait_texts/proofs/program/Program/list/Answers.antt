@@ -7,11 +7,8 @@ use Rattle.trait_texts.proofs.program.Program.list.Goals as goal
 pub invariant_of-self-in_err-push : goal.invariant_of-self-in_err-push
 invariant_of-self-in_err-push c =
     told_constructors c.self.inside.rules _ _ _ c.self.invariant refl
-    (each_set IsAbout c.self.inside.rules.constructors.items c.args.constructor c.in-Some.found.now (record {
-      fields
-          = c.in-Some.found.now.fields;
-      impls = c.push.new.self;
-    })
+    (each_set IsAbout c.self.inside.rules.constructors.items c.args.constructor c.in-Some.found.now
+    (record { fields = c.in-Some.found.now.fields; impls = c.push.new.self })
     c.self.invariant.sound.constructors c.in-Some.ensures.value
     (λ a. record { fields = a.fields; impls = rw c.in_err-push.ensures.items a.impls }))
 
