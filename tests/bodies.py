@@ -8,7 +8,7 @@ FUNCTION = re.compile(r"(\s*)(?:pub(?:\([\w ]+\))? )?(?:const )?(?:unsafe )?fn (
 CALL = re.compile(r"(\w+)(?=::<|\()")
 # What rt says of an answer of a proof, and of what has none.
 ANSWER = re.compile(r"(?:\./)?proofs/(?:(?:[\w+]+/)*([\w+]+)/)?\w+\.antt:\d+:\d+: error: (?:`([\w+-]+)`: )?(.*)")
-OPEN = re.compile(r"note: (?:\./)?src/([\w/]+)\.rt:(\d+):\d+: it is not proved that .* \(`([\w+-]+)`\)(.*)")
+OPEN = re.compile(r"note: (?:\./)?src/([\w/]+)\.rt:(\d+):\d+: (?:it is not proved that .*|`search` found no proof) \(`([\w+-]+)`\)(.*)")
 # An answer that names what is there no longer says nothing of the contract.
 LOST = re.compile(r"has no field|is not in scope|has no `|was not admitted")
 FALSE = "allow values at which this goal is false"
