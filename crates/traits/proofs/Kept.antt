@@ -1,5 +1,6 @@
 -- What is right of goals when more is known was right of them before.
-use Rattle.std.proofs.Common.{◌≡◌, ℕ, ◌⊎◌, inl, inr, List, [], ◌∷◌, ◌++◌, length, Option, Some, Ok, refl, sym, ◌∙◌, ap, subst}
+use Rattle.std.proofs.Common.{◌≡◌, ℕ, ◌⊎◌, inl, inr, List, [], ◌∷◌, ◌++◌, length, Option, Some, Ok, refl, sym, ◌∙◌}
+use Rattle.std.proofs.Common.{ap, subst}
 use Rattle.std.specs.Prelude.{slice_get, Result}
 use Rattle.delegate_parts.specs.declared.outcome.Outcome.{Outcome}
 use Rattle.search_context.specs.declared.context.Fault.{Fault}
@@ -28,7 +29,8 @@ module _ (table more : Table) (kept : Extends table more) where
 
   not_before : (goal : ℕ) → IsNotImplemented more goal → IsNotImplemented table goal
   not_before goal h term bound a i =
-      h term bound (asked_later goal term bound a) (subst (λ rules. Implements rules term bound) (sym kept.same_rules) i)
+      h term bound (asked_later goal term bound a) (subst (λ rules. Implements rules term bound) (sym
+      kept.same_rules) i)
 
   pub right_before : (goals : List ℕ) (came : List (Result Outcome (Fault ℕ Outcome))) → AreRight more goals came →
       AreRight table goals came
