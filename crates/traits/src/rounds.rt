@@ -58,10 +58,8 @@ fn ask<L: LendsGoals>(
     ensures right { IsRight (known_by L.table_of answers.old) goal result }
     ensures same_goals { known_by L.table_of answers.new ≡ known_by L.table_of answers.old }
 {
-    match answers.implements(goal, depth) {
-        Ok(answered) => Ok(answered.outcome),
-        Err(fault) => Err(fault),
-    }
+    let answered = answers.implements(goal, depth)?;
+    Ok(answered.outcome)
 }
 
 // Asks each of these goals.
@@ -80,13 +78,23 @@ fn ask_all<L: LendsGoals>(
         let answer = ask(&mut answers, *goal, depth);
         came.push(answer)?;
     }
+    let wanted = find_wanted(alloc, &answers, count)?;
+    Ok(Round { came, wanted })
+}
+
+// The goals, of so many, that were worked out, and whose candidates are not known.
+fn find_wanted<L: LendsGoals>(
+    alloc: Global,
+    answers: &Answers<L>,
+    count: usize,
+) -> Result<Vec<usize>, NoMemory> {
     let mut wanted = Vec::new(alloc);
     for goal in 0..count {
         if answers.was_wanted(goal) {
             wanted.push(goal)?;
         }
     }
-    Ok(Round { came, wanted })
+    Ok(wanted)
 }
 
 /// Asks the questions of these goals at this depth, over and over, until no goal is wanted that is not known.
