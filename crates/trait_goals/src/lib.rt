@@ -6,7 +6,8 @@
 //!
 //! | File of `specs/` | Has |
 //! |---|---|
-//! | `Instances` | the types that stand in the shapes of a rule |
+//! | `Instances`, `Finding` | the types that stand in the shapes of a rule, and what was found of a rule and a type |
+//! | `Trying` | what became of the rules that were tried for a goal |
 //! | `Known` | what is known of a goal, in words of rules and types |
 //! | `Rule` | the candidates of a goal as a search takes them |
 #![tactic(auto)]
