@@ -13,7 +13,7 @@ use crate::reason::write_reason;
 use crate::stop::Stop;
 use graph_data::writing::{write_answer, write_end as end_data, write_start as start_data};
 use graph_texts::dot::{END, START, write_cluster};
-use graph_texts::{name_of, write_text};
+use graph_texts::{Labelled, write_text};
 use json::Writer;
 use rule_tables::{Goal, Outcome, Rules};
 use search_context::context::{Fault, Node};
@@ -53,23 +53,29 @@ impl Page {
     }
 
     /// Adds what a question came to.
-    pub fn add(&mut self, alloc: Global, rules: &Rules, goal: Goal, came: &Came) -> Result<(), Stop>
+    pub fn add(
+        &mut self,
+        alloc: Global,
+        shown: Labelled<'_>,
+        goal: Goal,
+        came: &Came,
+    ) -> Result<(), Stop>
         ensures added { OnOk result
-            ((claims : List PlainClaim) → HasClaims rules.now self.old claims →
-            HasClaims rules.now self.new (claims ++ claims_of goal came.now)) }
+            ((claims : List PlainClaim) → HasClaims shown.entry.rules.now self.old claims →
+            HasClaims shown.entry.rules.now self.new (claims ++ claims_of goal came.now)) }
         ensures fault { IfErr result (λ stop. stop ≡ Stop.Memory) }
     {
         match self {
             Page::Text { depth, waiting } => {
-                in_memory(add_text(alloc, waiting, rules, goal, came, *depth))
+                in_memory(add_text(alloc, waiting, shown, goal, came, *depth))
             }
             Page::Dot { count, waiting } => {
                 let number = *count;
                 *count = number.saturating_add(1);
-                in_memory(add_dot(waiting, rules, number, goal, came))
+                in_memory(add_dot(waiting, shown, number, goal, came))
             }
             Page::Data(writer) => {
-                add_data(writer, rules, goal, came)?;
+                add_data(writer, shown.rules, goal, came)?;
                 Ok(())
             }
         }
@@ -163,13 +169,13 @@ fn finish_data<W: Write>(mut writer: Writer<Global>, out: &mut W) -> Result<(), 
 
 fn add_dot<W: Write>(
     out: &mut W,
-    rules: &Rules,
+    shown: Labelled<'_>,
     number: usize,
     goal: Goal,
     came: &Came,
 ) -> io::Result<()> {
     match shown_of(came) {
-        Some((outcome, nodes)) => write_cluster(out, rules, number, goal, outcome, nodes),
+        Some((outcome, nodes)) => write_cluster(out, shown, number, goal, outcome, nodes),
         None => Ok(()),
     }
 }
@@ -177,15 +183,15 @@ fn add_dot<W: Write>(
 fn add_text<W: Write>(
     alloc: Global,
     out: &mut W,
-    rules: &Rules,
+    shown: Labelled<'_>,
     goal: Goal,
     came: &Came,
     depth: usize,
 ) -> io::Result<()> {
-    let name = name_of(rules, goal);
+    let name = shown.name(goal);
     let written = match came {
-        Came::Graph { nodes, .. } => write_text(alloc, out, rules, nodes, depth),
-        Came::NoGraph { outcome, reason } => write_reason(out, rules, goal, *outcome, *reason),
+        Came::Graph { nodes, .. } => write_text(alloc, out, shown, nodes, depth),
+        Came::NoGraph { outcome, reason } => write_reason(out, shown, goal, *outcome, *reason),
         Came::Unchecked(outcome) => writeln!(out, "{name} {outcome} unchecked"),
         Came::Fault(fault) => {
             let word = fault_word(*fault);

@@ -2,7 +2,7 @@
 ghost use Rattle.std.specs.Prelude.{◌≡◌, ◌↔◌, ◌⊎◌, Contains, IsTrue};
 ghost use Rattle.graph_pages.specs.Reasons.{IsAskedBy, IsNamedByRules, asking_of};
 
-use graph_texts::{letter, name_of};
+use graph_texts::{Labelled, letter};
 use rule_tables::rules::Asking;
 use rule_tables::{Candidate, Goal, Outcome, Rules};
 use search_context::path::PathKind;
@@ -13,14 +13,14 @@ use watched_runs::{Cause, Cut, Reason};
 /// Writes what the goal came to, and on a second line why this is neither yes nor no.
 pub(crate) fn write_reason<W: Write>(
     out: &mut W,
-    rules: &Rules,
+    shown: Labelled<'_>,
     goal: Goal,
     outcome: Outcome,
     reason: Reason,
 ) -> io::Result<()> {
-    let name = name_of(rules, goal);
-    let words = match by_rules(rules, reason) {
-        Reason::Cut(cut) => return write_cut(out, rules, name, outcome, cut),
+    let name = shown.name(goal);
+    let words = match by_rules(shown.rules, reason) {
+        Reason::Cut(cut) => return write_cut(out, shown, name, outcome, cut),
         Reason::Runs => "had its most runs",
         Reason::Known => "was worked out before",
         Reason::Unnoted => "came to it for no reason that was noted",
@@ -73,14 +73,14 @@ fn has_question(rule: &Candidate<'_>, asking: Asking) -> bool
 
 fn write_cut<W: Write>(
     out: &mut W,
-    rules: &Rules,
+    shown: Labelled<'_>,
     name: &str,
     outcome: Outcome,
     cut: Cut,
 ) -> io::Result<()> {
     let letter = letter(cut.kind);
-    let asked = name_of(rules, cut.asked);
-    let by = name_of(rules, cut.by);
+    let asked = shown.name(cut.asked);
+    let by = shown.name(cut.by);
     let (why, named, end) = cause_words(cut.cause, asked);
     writeln!(
         out,

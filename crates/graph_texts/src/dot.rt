@@ -1,7 +1,8 @@
 //! Graphs in the language of Graphviz.
 
-use crate::words::{letter, name_of};
-use rule_tables::{Goal, Outcome, Rules};
+use crate::labels::Labelled;
+use crate::words::letter;
+use rule_tables::{Goal, Outcome};
 use search_context::context::{Edge, Node};
 use search_context::path::PathKind;
 use std::io;
@@ -36,21 +37,21 @@ pub const END: &[u8] = b"  subgraph cluster_legend {
 /// Writes one question's graph as a cluster. Without nodes it has one for the goal alone.
 pub fn write_cluster<W: Write>(
     out: &mut W,
-    rules: &Rules,
+    shown: Labelled<'_>,
     number: usize,
     goal: Goal,
     outcome: Outcome,
     nodes: &[Node<Goal, Outcome>],
 ) -> io::Result<()> {
-    let name = name_of(rules, goal);
+    let name = shown.name(goal);
     writeln!(
         out,
         "  subgraph cluster_{number} {{\n    label=\"{name} {outcome}\";"
     )?;
     let written = if nodes.is_empty() {
-        write_node(out, rules, number, 0, goal, outcome)
+        write_node(out, shown, number, 0, goal, outcome)
     } else {
-        write_nodes(out, rules, number, nodes)
+        write_nodes(out, shown, number, nodes)
     };
     written?;
     out.write_all(b"  }\n")
@@ -58,12 +59,12 @@ pub fn write_cluster<W: Write>(
 
 fn write_nodes<W: Write>(
     out: &mut W,
-    rules: &Rules,
+    shown: Labelled<'_>,
     number: usize,
     nodes: &[Node<Goal, Outcome>],
 ) -> io::Result<()> {
     for (place, node) in nodes.iter().enumerate() {
-        write_node(out, rules, number, place, node.input, node.result)?;
+        write_node(out, shown, number, place, node.input, node.result)?;
         for edge in &node.edges {
             write_edge(out, number, place, *edge)?;
         }
@@ -73,13 +74,13 @@ fn write_nodes<W: Write>(
 
 fn write_node<W: Write>(
     out: &mut W,
-    rules: &Rules,
+    shown: Labelled<'_>,
     number: usize,
     place: usize,
     goal: Goal,
     outcome: Outcome,
 ) -> io::Result<()> {
-    let name = name_of(rules, goal);
+    let name = shown.name(goal);
     let shape = shape(outcome);
     writeln!(
         out,

@@ -10,11 +10,13 @@
 #![tactic(auto)]
 
 pub mod dot;
+mod labels;
 pub mod law;
 mod plan;
 mod rule;
 mod text;
 mod words;
 
+pub use labels::Labelled;
 pub use text::write_text;
 pub use words::{kind_of, letter, name_of, word};

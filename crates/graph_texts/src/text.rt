@@ -1,10 +1,11 @@
 //! A graph as indented text.
 
+use crate::labels::Labelled;
 use crate::plan::{Line, Planned, plan};
 use crate::rule::{Grounds, failures, holding};
-use crate::words::{letter, name_of, write_rule};
+use crate::words::{letter, write_rule};
 use rule_tables::rules::Asking;
-use rule_tables::{Candidates, Goal, Outcome, Rules};
+use rule_tables::{Candidates, Goal, Outcome};
 use search_context::context::{NoMemory, Node};
 use std::alloc::Global;
 use std::io;
@@ -22,13 +23,13 @@ const SPACES: &[u8] = b"                                        ";
 pub fn write_text<W: Write>(
     alloc: Global,
     out: &mut W,
-    rules: &Rules,
+    shown: Labelled<'_>,
     nodes: &[Node<Goal, Outcome>],
     most: usize,
 ) -> io::Result<()> {
     let Planned { lines, left } = plan(alloc, nodes, most).map_err(no_memory)?;
     for line in lines.as_slice() {
-        write_line(alloc, out, rules, nodes, *line)?;
+        write_line(alloc, out, shown, nodes, *line)?;
     }
     if left > 0 {
         writeln!(out, "goals left out: {left}, which lie deeper than {most}")
@@ -44,7 +45,7 @@ fn no_memory(_refused: NoMemory) -> io::Error {
 fn write_line<W: Write>(
     alloc: Global,
     out: &mut W,
-    rules: &Rules,
+    shown: Labelled<'_>,
     nodes: &[Node<Goal, Outcome>],
     line: Line,
 ) -> io::Result<()> {
@@ -54,7 +55,7 @@ fn write_line<W: Write>(
             level,
             number,
         } => match nodes.get(place) {
-            Some(node) => write_node(alloc, out, rules, node, level, number),
+            Some(node) => write_node(alloc, out, shown, node, level, number),
             None => Ok(()),
         },
         Line::Again {
@@ -63,11 +64,11 @@ fn write_line<W: Write>(
             number,
             closes,
         } => match nodes.get(place) {
-            Some(node) => write_again(out, rules, node, level, number, closes),
+            Some(node) => write_again(out, shown, node, level, number, closes),
             None => Ok(()),
         },
         Line::Cut { place, level } => match nodes.get(place) {
-            Some(node) => write_cut(out, rules, node, level),
+            Some(node) => write_cut(out, shown, node, level),
             None => Ok(()),
         },
     }
@@ -95,20 +96,20 @@ fn says(outcome: Outcome) -> &'static str {
 fn write_node<W: Write>(
     alloc: Global,
     out: &mut W,
-    rules: &Rules,
+    shown: Labelled<'_>,
     node: &Node<Goal, Outcome>,
     level: usize,
     number: usize,
 ) -> io::Result<()> {
-    let candidates = rules.candidates(node.input);
+    let candidates = shown.rules.candidates(node.input);
     let grounds = Grounds::new(alloc, &node.edges).map_err(no_memory)?;
-    write_shown(out, rules, node, level, number)?;
+    write_shown(out, shown, node, level, number)?;
     if node.result != Outcome::Yes {
         let named = failures(alloc, &candidates, &grounds).map_err(no_memory)?;
-        return write_refutation(out, rules, node.input, &candidates, &named, level);
+        return write_refutation(out, shown, node.input, &candidates, &named, level);
     }
     if let Some(candidate) = holding(&candidates, &grounds) {
-        write_rule(out, ", by rule ", rules, node.input, &candidate)?;
+        write_rule(out, ", by rule ", shown, node.input, &candidate)?;
     }
     out.write_all(b"\n")
 }
@@ -116,13 +117,13 @@ fn write_node<W: Write>(
 // The beginning of the line of a node that is shown.
 fn write_shown<W: Write>(
     out: &mut W,
-    rules: &Rules,
+    shown: Labelled<'_>,
     node: &Node<Goal, Outcome>,
     level: usize,
     number: usize,
 ) -> io::Result<()> {
     write_indentation(out, level)?;
-    let name = name_of(rules, node.input);
+    let name = shown.name(node.input);
     let said = says(node.result);
     if number > 0 {
         write!(out, "{number} {name} {said}")
@@ -134,7 +135,7 @@ fn write_shown<W: Write>(
 // The question at which each rule fails, on a line for each.
 fn write_refutation<W: Write>(
     out: &mut W,
-    rules: &Rules,
+    shown: Labelled<'_>,
     goal: Goal,
     candidates: &Candidates<'_>,
     named: &[Option<Asking>],
@@ -147,34 +148,38 @@ fn write_refutation<W: Write>(
     for (place, failing) in named.iter().enumerate() {
         if let Some(candidate) = candidates.get(place) {
             write_indentation(out, level.saturating_add(1))?;
-            write_rule(out, "rule ", rules, goal, &candidate)?;
-            write_failing(out, rules, *failing)?;
+            write_rule(out, "rule ", shown, goal, &candidate)?;
+            write_failing(out, shown, *failing)?;
         }
     }
     Ok(())
 }
 
 // At which question a rule fails, at the end of its line.
-fn write_failing<W: Write>(out: &mut W, rules: &Rules, failing: Option<Asking>) -> io::Result<()> {
+fn write_failing<W: Write>(
+    out: &mut W,
+    shown: Labelled<'_>,
+    failing: Option<Asking>,
+) -> io::Result<()> {
     let Some(asking) = failing else {
         return out.write_all(b"\n");
     };
     let letter = letter(asking.kind);
-    let name = name_of(rules, asking.goal);
+    let name = shown.name(asking.goal);
     writeln!(out, " fails at {letter}:{name}")
 }
 
 // A goal that has its lines elsewhere.
 fn write_again<W: Write>(
     out: &mut W,
-    rules: &Rules,
+    shown: Labelled<'_>,
     node: &Node<Goal, Outcome>,
     level: usize,
     number: usize,
     closes: bool,
 ) -> io::Result<()> {
     write_indentation(out, level)?;
-    let name = name_of(rules, node.input);
+    let name = shown.name(node.input);
     let end = end_of_again(closes, node.result);
     if number > 0 {
         writeln!(out, "{name} again, as {number}{end}")
@@ -193,12 +198,12 @@ fn end_of_again(closes: bool, outcome: Outcome) -> &'static str {
 
 fn write_cut<W: Write>(
     out: &mut W,
-    rules: &Rules,
+    shown: Labelled<'_>,
     node: &Node<Goal, Outcome>,
     level: usize,
 ) -> io::Result<()> {
     write_indentation(out, level)?;
-    let name = name_of(rules, node.input);
+    let name = shown.name(node.input);
     let said = says(node.result);
     writeln!(out, "{name} {said}: left out here")
 }

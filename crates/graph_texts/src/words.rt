@@ -5,6 +5,7 @@ ghost use Rattle.path_kinds.specs.declared.path.PathKind.{PathKind as SpecKind};
 ghost use Rattle.graph_texts.specs.Below.{names_of, word_of};
 ghost use Rattle.graph_texts.specs.Words.{goal_text, letter_of};
 
+use crate::labels::Labelled;
 use rule_tables::{Candidate, Goal, Outcome, Rules};
 use search_context::path::PathKind;
 use std::io;
@@ -63,16 +64,16 @@ pub fn word(outcome: Outcome) -> &'static str
 pub(crate) fn write_rule<W: Write>(
     out: &mut W,
     before: &str,
-    rules: &Rules,
+    shown: Labelled<'_>,
     goal: Goal,
     candidate: &Candidate<'_>,
 ) -> io::Result<()> {
     let mark = if candidate.is_marked() { "~" } else { "" };
-    let name = name_of(rules, goal);
+    let name = shown.name(goal);
     write!(out, "{before}{mark}{name} =")?;
     for asking in candidate.questions() {
         let letter = letter(asking.kind);
-        let asked = name_of(rules, asking.goal);
+        let asked = shown.name(asking.goal);
         write!(out, " {letter}:{asked}")?;
     }
     Ok(())

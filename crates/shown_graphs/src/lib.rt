@@ -3,8 +3,10 @@
 #![tactic(auto)]
 
 mod answer;
+mod causes;
 mod program;
 
-pub use graph_pages::{Form, check};
-pub use program::{explain, explain_within};
-pub use watched_runs::{NoProgress, Progress};
+pub use causes::causes_within;
+pub use graph_pages::{Form, Stop, check};
+pub use program::{explain, explain_within, show_text};
+pub use watched_runs::{Cause, NoProgress, Progress};

@@ -11,6 +11,7 @@ use rule_tables::delegate::Table;
 use rule_tables::{Rules, TableDelegate};
 use search_context::context::{Cx, Delegate};
 use showing::show_input;
+pub use showing::show_text;
 use std::alloc::Global;
 use std::io::{Read, Write};
 use watched_runs::Progress;

@@ -1,55 +1,75 @@
 //! What the program does with texts that were read.
 
-use crate::rounds::ask_in_rounds;
+mod answering;
+
+use crate::check::write_names;
+use crate::labels::{labels_of, names_of};
+use crate::rounds::{Came, ask_in_rounds};
 use crate::stop::Stop;
-use search_context::context::{Fault, NoMemory};
+use crate::table::write_table;
+pub(crate) use answering::answer;
+use search_context::context::NoMemory;
+use shown_graphs::{Form, NoProgress, show_text};
 use std::alloc::Global;
 use std::io::Write;
-use trait_answers::Outcome;
 use trait_goals::{Asked, Goals};
 use trait_texts::{Declarations, Question, ReadFault, Source, Spelling, read};
 
-/// Answers the questions of the texts, each on a line of its own. Whether none met a fault.
-pub(crate) fn answer_texts<W: Write>(
+/// What the texts ask, with the goals that are known of it, and what it came to.
+#[derive(Drop)]
+pub(crate) struct Answered<'a> {
+    goals: Goals,
+    spelling: Spelling<'a>,
+    /// The goals of the questions, in order.
+    asked: Vec<usize>,
+    depth: usize,
+    came: Vec<Came>,
+}
+
+/// Reads the texts, and answers their questions.
+pub(crate) fn ask_texts<'a>(
     alloc: Global,
-    sources: &[Source<'_>],
+    sources: &[Source<'a>],
     as_rustc: bool,
-    out: &mut W,
-) -> Result<bool, Stop> {
-    let declared = match read(alloc, sources, as_rustc) {
-        Ok(declared) => declared,
-        Err(ReadFault::Memory) => return Err(Stop::Memory),
-        Err(ReadFault::Refused(refusal)) => {
-            let mut reason = Vec::new(alloc);
-            refusal.write(alloc, &mut reason)?;
-            return Err(Stop::Refused(reason));
-        }
-    };
+) -> Result<Answered<'a>, Stop> {
     let Declarations {
         rules,
         terms,
         questions,
         depth,
         spelling,
-    } = declared;
+    } = read_texts(alloc, sources, as_rustc)?;
     let mut goals = Goals::new(alloc, rules, terms);
     let asked = all_goals(alloc, &mut goals, questions.as_slice())?;
     let came = ask_in_rounds(alloc, &mut goals, asked.as_slice(), depth)?;
-    let mut is_well = true;
-    let mut line = Vec::new(alloc);
-    for (question, came) in questions.iter().zip(came.iter()) {
-        line.clear();
-        write_question(alloc, &mut line, &goals, &spelling, *question)?;
-        is_well &= came.is_ok();
-        line.extend_from_slice(word_of(*came))?;
-        out.write_all(line.as_slice())?;
-    }
-    out.flush()?;
-    Ok(is_well)
+    Ok(Answered {
+        goals,
+        spelling,
+        asked,
+        depth,
+        came,
+    })
 }
 
-// The goals of the questions.
-fn all_goals(
+/// Reads the texts.
+pub(crate) fn read_texts<'a>(
+    alloc: Global,
+    sources: &[Source<'a>],
+    as_rustc: bool,
+) -> Result<Declarations<'a>, Stop> {
+    match read(alloc, sources, as_rustc) {
+        Ok(declared) => Ok(declared),
+        Err(ReadFault::Memory) => Err(Stop::Memory),
+        Err(ReadFault::Refused(refusal)) => {
+            let mut reason = Vec::new(alloc);
+            refusal.write(alloc, &mut reason)?;
+            Err(Stop::Refused(reason))
+        }
+    }
+}
+
+/// The goals of the questions.
+pub(crate) fn all_goals(
     alloc: Global,
     goals: &mut Goals,
     questions: &[Question],
@@ -65,29 +85,41 @@ fn all_goals(
     Ok(asked)
 }
 
-// Writes `List<i32>: Send`.
-fn write_question(
+/// Shows in this form how each question is answered. Whether none met a fault.
+pub(crate) fn show<W: Write>(
     alloc: Global,
-    line: &mut Vec<u8>,
-    goals: &Goals,
-    spelling: &Spelling<'_>,
-    question: Question,
-) -> Result<(), NoMemory> {
-    spelling.write_type(alloc, line, goals.terms(), question.subject)?;
-    line.extend_from_slice(b": ")?;
-    line.extend_from_slice(spelling.trait_name(question.bound).unwrap_or(b"?"))?; // there is one
-    Ok(())
+    answered: &Answered<'_>,
+    form: Form,
+    out: &mut W,
+) -> Result<bool, Stop> {
+    let goals = &answered.goals;
+    let asked = answered.asked.as_slice();
+    let text = write_table(alloc, goals, &[], asked, answered.depth)?;
+    let text = text.as_slice();
+    let labels = match form {
+        Form::Data => {
+            let names = names_of(alloc, goals, &answered.spelling)?;
+            out.write_all(write_names(alloc, names.as_slice())?.as_slice())?;
+            Vec::new(alloc)
+        }
+        Form::Text { .. } | Form::Dot => labels_of(alloc, goals, &answered.spelling)?,
+    };
+    let labels = labels.as_slice();
+    let is_well = show_text::<8, W, NoProgress>(alloc, form, text, labels, out, NoProgress)?;
+    Ok(is_well)
 }
 
-// What a question came to, and the end of its line.
-fn word_of(came: Result<Outcome, Fault<usize, Outcome>>) -> &'static [u8] {
-    match came {
-        Ok(Outcome::Yes) => b" yes\n",
-        Ok(Outcome::No) => b" no\n",
-        Ok(Outcome::Maybe | Outcome::Overflow) => b" maybe\n",
-        Err(Fault::Memory) => b" fault memory\n",
-        Err(Fault::Conflict { .. }) => b" fault conflict\n",
-        Err(Fault::Validation { .. }) => b" fault validation\n",
-        Err(Fault::Protocol(_)) => b" fault protocol\n",
-    }
+/// Writes the goals with their rules as a table of rules, which asks what the texts ask.
+pub(crate) fn tell_rules<W: Write>(
+    alloc: Global,
+    answered: &Answered<'_>,
+    out: &mut W,
+) -> Result<bool, Stop> {
+    let goals = &answered.goals;
+    let labels = names_of(alloc, goals, &answered.spelling)?;
+    let asked = answered.asked.as_slice();
+    let text = write_table(alloc, goals, labels.as_slice(), asked, answered.depth)?;
+    out.write_all(text.as_slice())?;
+    out.flush()?;
+    Ok(true)
 }

@@ -1,60 +1,34 @@
 //! Questions are asked in rounds, until all goals that they want are known.
 ghost use Rattle.std.specs.Prelude.{◌≡◌, IfOk};
 ghost use Rattle.trait_answers.specs.Asking.{known_by};
-ghost use Rattle.trait_goals.specs.Trying.{Extends};
 ghost use Rattle.traits.specs.Right.{AreRight, IsRight};
 
+use crate::scout::scout;
 use search_context::context::{Fault, NoMemory};
 use std::alloc::Global;
 use trait_answers::{Answers, Outcome};
 use trait_goals::{Goals, LendsGoals};
 
+/// What a question came to.
+pub(crate) type Came = Result<Outcome, Fault<usize, Outcome>>;
+
 /// What the questions came to.
 #[derive(Drop)]
 pub(crate) struct Round {
     /// What each question came to, in order.
-    pub(crate) came: Vec<Result<Outcome, Fault<usize, Outcome>>>,
+    pub(crate) came: Vec<Came>,
     /// The goals without known candidates that were worked out.
     pub(crate) wanted: Vec<usize>,
 }
 
-/// How many goals are made known before the first round at most, and how many more after each.
-const FIRST: usize = 1 << 16;
-
-const MORE: usize = 1 << 12;
+/// How many goals become known before a round at most.
+const MOST: usize = 1 << 20;
 
 /// How many rounds there are at most. What is wanted after the last one stays unknown.
-const ROUNDS: usize = 256;
-
-// Makes the goals from this number on known, and those that they bring, up to so many.
-fn expand_from(alloc: Global, goals: &mut Goals, from: usize, most: usize) -> Result<(), NoMemory>
-    ensures { Extends goals.old goals.new }
-{
-    for place in 0..most {
-        if place >= goals.len() || from >= goals.len() - place {
-            return Ok(());
-        }
-        goals.expand(alloc, from + place)?;
-    }
-    Ok(())
-}
-
-// Makes these goals known.
-fn expand_each(alloc: Global, goals: &mut Goals, wanted: &[usize]) -> Result<(), NoMemory>
-    ensures { Extends goals.old goals.new }
-{
-    for goal in wanted {
-        goals.expand(alloc, *goal)?;
-    }
-    Ok(())
-}
+const ROUNDS: usize = 64;
 
 // Asks a goal.
-fn ask<L: LendsGoals>(
-    answers: &mut Answers<L>,
-    goal: usize,
-    depth: usize,
-) -> Result<Outcome, Fault<usize, Outcome>>
+fn ask<L: LendsGoals>(answers: &mut Answers<L>, goal: usize, depth: usize) -> Came
     ensures right { IsRight (known_by L.table_of answers.old) goal result }
     ensures same_goals { known_by L.table_of answers.new ≡ known_by L.table_of answers.old }
 {
@@ -103,18 +77,16 @@ pub(crate) fn ask_in_rounds(
     goals: &mut Goals,
     asked: &[usize],
     depth: usize,
-) -> Result<Vec<Result<Outcome, Fault<usize, Outcome>>>, NoMemory>
+) -> Result<Vec<Came>, NoMemory>
     ensures { IfOk result (λ came. AreRight goals.old asked.now came.items) }
 {
-    expand_from(alloc, goals, 0, goals.len().saturating_add(FIRST))?;
+    scout(alloc, goals, asked, depth, MOST)?;
     let mut round = ask_all::<&Goals>(alloc, &*goals, goals.len(), asked, depth)?;
     for _ in 0..ROUNDS {
         if round.wanted.is_empty() {
             break;
         }
-        let from = goals.len();
-        expand_each(alloc, goals, round.wanted.as_slice())?;
-        expand_from(alloc, goals, from, MORE)?;
+        scout(alloc, goals, round.wanted.as_slice(), depth, MOST)?;
         round = ask_all::<&Goals>(alloc, &*goals, goals.len(), asked, depth)?;
     }
     Ok(round.came)

@@ -1,8 +1,10 @@
 //! Why the program ends early.
 ghost use Rattle.std.specs.Prelude.{◌≤◌};
 
+use graph_data::DataFault;
 use line_texts::InputFault;
 use search_context::context::NoMemory;
+use shown_graphs::Stop as ShownStop;
 use std::alloc::{AllocError, AllocFailed};
 use std::io;
 use std::io::Write;
@@ -12,6 +14,10 @@ use std::io::Write;
 pub(crate) enum Stop {
     /// The texts are refused, for this reason.
     Refused(Vec<u8>),
+    /// So many bytes of the data are as they have to be.
+    BadData(usize),
+    /// A file was not opened, for this reason.
+    NotOpened(Vec<u8>),
     InputOrOutput,
     Memory,
 }
@@ -49,6 +55,25 @@ impl From<InputFault> for Stop {
     }
 }
 
+impl From<DataFault> for Stop {
+    fn from(fault: DataFault) -> Stop {
+        match fault {
+            DataFault::BadData(place) => Stop::BadData(place),
+            DataFault::Memory => Stop::Memory,
+        }
+    }
+}
+
+impl From<ShownStop> for Stop {
+    fn from(stop: ShownStop) -> Stop {
+        match stop {
+            ShownStop::BadLine(place) | ShownStop::BadData(place) => Stop::BadData(place),
+            ShownStop::InputOrOutput => Stop::InputOrOutput,
+            ShownStop::Memory => Stop::Memory,
+        }
+    }
+}
+
 /// The exit status, and the reason is told where the program ended early. A failure to tell it changes nothing.
 pub(crate) fn status_told<E: Write + Drop>(came: Result<bool, Stop>, mut err: E) -> u8
     ensures { result ≤ 4 }
@@ -59,6 +84,15 @@ pub(crate) fn status_told<E: Write + Drop>(came: Result<bool, Stop>, mut err: E)
         Err(Stop::Refused(reason)) => {
             let _ = err.write_all(reason.as_slice());
             let _ = err.write_all(b"\n");
+            2
+        }
+        Err(Stop::NotOpened(reason)) => {
+            let _ = err.write_all(reason.as_slice());
+            let _ = err.write_all(b"\n");
+            3
+        }
+        Err(Stop::BadData(place)) => {
+            let _ = writeln!(err, "byte {place}: bad data");
             2
         }
         Err(Stop::InputOrOutput) => {

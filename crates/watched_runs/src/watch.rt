@@ -14,6 +14,7 @@ pub(crate) use run::RunWatch;
 use search_context::context::{NoMemory, Reply, Request};
 use search_context::path::PathKind;
 use std::alloc::Global;
+use std::collections::HashMap;
 
 /// Why a question was answered neither yes nor no.
 #[derive(Clone, Copy)]
@@ -31,6 +32,16 @@ pub enum Cause {
 
 impl Cause {
     ghost use Rattle.watched_runs.specs.Reasons.{is_limit};
+
+    /// Whether it says where questions were cut off first: a known result, and a cycle whose earlier run came to maybe, hand on
+    /// what was met before.
+    pub(crate) fn is_first(self) -> bool {
+        match self {
+            Cause::Depth { .. } | Cause::Runs => true,
+            Cause::Cycle(kind) => matches!(kind, PathKind::Unknown | PathKind::ForcedAmbiguity),
+            Cause::Known => false,
+        }
+    }
 
     // Whether it is a limit that the same call met.
     fn is_limit(self) -> bool
@@ -90,6 +101,8 @@ pub struct Watcher<P> {
     next: PathKind,
     /// Why the run that ended last came to neither yes nor no.
     last: Option<Cut>,
+    /// Where the goals that came to maybe were cut off first, each in the last run of it that did.
+    noted: HashMap<Goal, Cut>,
     /// Some goal had its most runs.
     had_most_runs: bool,
 }
@@ -108,6 +121,7 @@ impl<P: Progress> Watcher<P> {
             open: Vec::new(alloc),
             next: PathKind::Inductive,
             last: None,
+            noted: HashMap::new(alloc),
             had_most_runs: false,
         }
     }
@@ -145,6 +159,27 @@ impl<P: Progress> Watcher<P> {
             (Outcome::Maybe, Some(cut)) if is_limited || !cut.cause.is_limit() => Reason::Cut(cut),
             _ => Reason::Unnoted,
         }
+    }
+
+    /// Where the goal was cut off first that came to neither yes nor no for this reason, if that was seen: for this question or
+    /// for an earlier one.
+    pub fn first_cause(&self, goal: Goal, reason: Reason) -> Option<Cause> {
+        match reason {
+            Reason::Runs => Some(Cause::Runs),
+            Reason::Cut(cut) => Some(self.first_cut(cut).cause),
+            Reason::Known | Reason::Unnoted => match self.noted.get(&goal) {
+                Some(cut) => Some(cut.cause),
+                None => None,
+            },
+        }
+    }
+
+    // Where a goal was cut off first that was cut off here: a result that was known hands on what was met before.
+    fn first_cut(&self, cut: Cut) -> Cut {
+        if cut.cause.is_first() {
+            return cut;
+        }
+        self.noted.get(&cut.asked).copied().unwrap_or(cut)
     }
 
     /// Notes that a run of the goal begins.
@@ -188,10 +223,10 @@ impl<P: Progress> Watcher<P> {
         &mut self,
         run: RunWatch,
         request: Request<Goal, Outcome>,
-    ) -> RunWatch
+    ) -> Result<RunWatch, NoMemory>
         ensures { inner_of self.new ≡ inner_of self.old }
     {
-        match request {
+        let run = match request {
             Request::Evaluate(kind, goal) => {
                 self.next = kind;
                 run.asking(Question {
@@ -209,9 +244,14 @@ impl<P: Progress> Watcher<P> {
                     self.next = level.kind;
                 }
                 self.last = run.cut;
+                if let Some(cut) = run.cut {
+                    let first = self.first_cut(cut);
+                    self.noted.insert(run.goal, first)?;
+                }
                 run
             }
-        }
+        };
+        Ok(run)
     }
 
     // Why the question has this answer, which is neither yes nor no.

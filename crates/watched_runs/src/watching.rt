@@ -160,7 +160,7 @@ where
     {
         let run = inspect.note_reply(frame.run, reply);
         let request = D::step(&mut frame.frame, reply, &mut inspect.inner)?;
-        frame.run = inspect.note_request(run, request);
+        frame.run = inspect.note_request(run, request)?;
         Ok(request)
     }
 

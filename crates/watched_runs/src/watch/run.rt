@@ -1,6 +1,6 @@
 //! What is watched of one run.
 
-use crate::watch::{Cause, Cut};
+use crate::watch::Cut;
 use rule_tables::Goal;
 use search_context::path::PathKind;
 
@@ -83,19 +83,10 @@ impl RunWatch {
     }
 }
 
-// The earlier one, unless only the later one says where questions were cut off first: a known result, and a cycle whose
-// earlier run came to maybe, hand on what was met before.
+// The earlier one, unless only the later one says where questions were cut off first.
 fn first_of(earlier: Option<Cut>, later: Cut) -> Cut {
     match earlier {
-        Some(cut) if is_first(cut.cause) || !is_first(later.cause) => cut,
+        Some(cut) if cut.cause.is_first() || !later.cause.is_first() => cut,
         _ => later,
-    }
-}
-
-fn is_first(cause: Cause) -> bool {
-    match cause {
-        Cause::Depth { .. } | Cause::Runs => true,
-        Cause::Cycle(kind) => matches!(kind, PathKind::Unknown | PathKind::ForcedAmbiguity),
-        Cause::Known => false,
     }
 }

@@ -7,7 +7,7 @@ use Rattle.shown_graphs.specs.Below.{verdicts}
 pub loop-done-init : goal.loop-done-init
 loop-done-init g c = record {
   same_context = ap (λ cache. cache.cx) c.new-cache.ensures;
-  asked = none_asked (verdicts g.X.Cx) (g.D.Delegate.script c.args.cx) c.args.rules.now c.args.page _;
+  asked = none_asked (verdicts g.X.Cx) (g.D.Delegate.script c.args.cx) c.args.shown.rules.now c.args.page _;
 }
 
 pub loop-done-preserved : goal.loop-done-preserved
@@ -16,7 +16,7 @@ loop-done-preserved g c =
     c.loop-done.invariant.same_context _ _ c.ask-came.ensures.right in
     record {
       same_context = c.ask-came.ensures.same_context ∙ c.loop-done.invariant.same_context;
-      asked = asked_more (verdicts g.X.Cx) (g.D.Delegate.script c.args.cx) c.args.rules.now c.args.page c.loop-done.page
+      asked = asked_more (verdicts g.X.Cx) (g.D.Delegate.script c.args.cx) c.args.shown.rules.now c.args.page c.loop-done.page
           c.add.new.self c.pass_on.new.self _ _ _ c.questions-questions.result.now
           c.loop-done.done _ _ c.ask-came.result _ _
           c.loop-done-test.true c.loop-done.invariant.asked refl right
@@ -26,6 +26,6 @@ loop-done-preserved g c =
 
 pub returns-clause-shown : goal.returns-clause-shown
 returns-clause-shown g c =
-    all_shown (verdicts g.X.Cx) (g.D.Delegate.script c.args.cx) c.args.rules.now c.args.page c.loop-done.page _ _ _
+    all_shown (verdicts g.X.Cx) (g.D.Delegate.script c.args.cx) c.args.shown.rules.now c.args.page c.loop-done.page _ _ _
     c.questions-questions.result.now c.loop-done.done _ c.questions-questions.ensures (omega arith)
     c.loop-done.invariant.asked c.in_ok-finish.ensures.written

@@ -9,6 +9,6 @@ invariant-loop-done g l =
     let contents = g.W.Write.contents in
     record {
       same_context : l.cache.cx ≡ l.fn.cx;
-      asked : AreAskedTo (verdicts g.X.Cx) (g.D.Delegate.script l.fn.cx) l.rules l.fn.page l.page (contents l.fn.out)
-          (contents l.out) (take l.done l.questions) l.all_fine;
+      asked : AreAskedTo (verdicts g.X.Cx) (g.D.Delegate.script l.fn.cx) l.shown.rules.now l.fn.page l.page
+          (contents l.fn.out) (contents l.out) (take l.done l.questions) l.all_fine;
     }

@@ -1,0 +1,13 @@
+use Rattle.traits.proofs.Kept.{extends_same, extends_then}
+use Rattle.traits.proofs.scout.scout.Goals as goal
+
+pub loop-init : goal.loop-init
+loop-init c = extends_same c.args.goals.now
+
+pub loop-preserved : goal.loop-preserved
+loop-preserved c =
+    extends_then c.args.goals.now c.loop.goals c.expand.new.self c.loop.invariant c.expand.ensures
+
+pub returns-in_err-expand : goal.returns-in_err-expand
+returns-in_err-expand c =
+    extends_then c.args.goals.now c.loop.goals c.expand.new.self c.loop.invariant c.expand.ensures

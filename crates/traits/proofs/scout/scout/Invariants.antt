@@ -1,0 +1,5 @@
+use Rattle.trait_goals.specs.Trying.{Extends}
+use Rattle.traits.proofs.scout.scout.Given as goal
+
+abbrev pub invariant-loop : goal.invariant-loop
+invariant-loop l = Extends l.fn.goals l.goals

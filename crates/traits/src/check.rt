@@ -1,0 +1,120 @@
+//! Graphs that are read as data, and checked by declarations.
+
+mod data;
+mod same_rules;
+
+use crate::labels::write_goal;
+use crate::program::{all_goals, read_texts};
+use crate::stop::Stop;
+pub(crate) use data::write_names;
+use data::{Data, read_data};
+use graph_data::reading::claims_of_text;
+use graph_pages::check as check_page;
+use same_rules::are_same_rules;
+use shown_graphs::NoProgress;
+use std::alloc::Global;
+use std::io::Write;
+use trait_goals::Goals;
+use trait_texts::{Declarations, Source, Spelling};
+
+/// Checks data that this program wrote, by the declarations of these texts: the rules in the data have to be theirs, and the
+/// checker, which knows nothing of the search, says of each answer whether it accepts its graph. Whether none was refused.
+pub(crate) fn check<W: Write>(
+    alloc: Global,
+    sources: &[Source<'_>],
+    as_rustc: bool,
+    file: &str,
+    text: &[u8],
+    out: &mut W,
+) -> Result<bool, Stop> {
+    let data = read_data(alloc, text)?;
+    let claims = claims_of_text(alloc, data.page)?;
+    let mut sources_and_names = Vec::new(alloc);
+    sources_and_names.extend_from_slice(sources)?;
+    sources_and_names.push(Source {
+        name: file.as_bytes(),
+        text: data.questions.as_slice(),
+    })?;
+    let declared = read_texts(alloc, sources_and_names.as_slice(), as_rustc)?;
+    let (mut goals, spelling) = goals_of(alloc, &data, declared)?;
+    if !are_named(alloc, &data, &goals, &spelling)? {
+        return Err(refused(alloc, b"a goal has another name than in the declarations")?);
+    }
+    if !are_same_rules(alloc, &mut goals, data.names.len(), &claims)? {
+        return Err(refused(alloc, b"the rules are not those of the declarations")?);
+    }
+    tell_judgements(alloc, &data, out)
+}
+
+fn refused(alloc: Global, reason: &[u8]) -> Result<Stop, Stop> {
+    let mut text = Vec::new(alloc);
+    text.extend_from_slice(reason)?;
+    Ok(Stop::Refused(text))
+}
+
+// The goals that the data names, by the questions that stand last.
+fn goals_of<'a>(
+    alloc: Global,
+    data: &Data<'_>,
+    declared: Declarations<'a>,
+) -> Result<(Goals, Spelling<'a>), Stop> {
+    let Declarations {
+        rules,
+        terms,
+        questions,
+        spelling,
+        ..
+    } = declared;
+    let mut goals = Goals::new(alloc, rules, terms);
+    let before = questions.len().saturating_sub(data.names.len());
+    let questions = questions.as_slice().split_at(before).1;
+    let _goals = all_goals(alloc, &mut goals, questions)?;
+    Ok((goals, spelling))
+}
+
+// Whether the goals are those of the names, each by its number.
+fn are_named(
+    alloc: Global,
+    data: &Data<'_>,
+    goals: &Goals,
+    spelling: &Spelling<'_>,
+) -> Result<bool, Stop> {
+    let mut spelled = Vec::new(alloc);
+    for (goal, name) in data.names.iter().enumerate() {
+        spelled.clear();
+        write_goal(alloc, &mut spelled, goals, spelling, goal)?;
+        if spelled.as_slice() != name.as_slice() {
+            return Ok(false);
+        }
+    }
+    Ok(goals.len() == data.names.len())
+}
+
+// Writes what the checker says, with the names in place of the numbers.
+fn tell_judgements<W: Write>(alloc: Global, data: &Data<'_>, out: &mut W) -> Result<bool, Stop> {
+    let mut judged = Vec::new(alloc);
+    let mut told = Vec::new(alloc);
+    let status = check_page(alloc, data.page, &mut judged, &mut told, NoProgress);
+    for line in judged.as_slice().split(|byte| *byte == b'\n') {
+        if let Some((name, said)) = named_line(data, line) {
+            out.write_all(name)?;
+            out.write_all(said)?;
+            out.write_all(b"\n")?;
+        }
+    }
+    out.flush()?;
+    match status {
+        0 => Ok(true),
+        1 => Ok(false),
+        _ => Err(Stop::Memory),
+    }
+}
+
+// The name of the goal that the line tells of, and the rest of the line.
+fn named_line<'a>(data: &'a Data<'_>, line: &'a [u8]) -> Option<(&'a [u8], &'a [u8])> {
+    let end = line.iter().position(|byte| *byte == b' ')?;
+    let (number, said) = line.split_at_checked(end)?;
+    let number: usize = std::str::from_utf8(number).ok()?.parse().ok()?;
+    let name = data.names.get(number)?;
+    Some((name.as_slice(), said))
+}

@@ -1,0 +1,194 @@
+//! Goals are made known in about the order in which a search comes to them.
+//!
+//! A search goes down as far as the depth allows, and where it was cut off it goes only a quarter as deep beside that. So where types
+//! grow, it comes to few of the goals that there are within the depth.
+ghost use Rattle.std.specs.Prelude.{◌≡◌};
+ghost use Rattle.trait_goals.specs.Trying.{Extends};
+
+use search_context::context::NoMemory;
+use std::alloc::Global;
+use trait_goals::Goals;
+
+/// How many steps are made at most to find a goal that is not known.
+const STEPS: usize = 1 << 24;
+
+/// Beside what was cut off, the depth is divided by this.
+const PART: usize = 4;
+
+/// A goal that is gone through.
+#[derive(Clone, Copy)]
+struct Visit {
+    goal: usize,
+    /// How many goals may stand below it.
+    depth: usize,
+    /// The candidate whose questions come next.
+    candidate: usize,
+    /// The place of the next question.
+    place: usize,
+    /// A question below was cut off.
+    is_cut_off: bool,
+}
+
+/// How a goal was gone through.
+#[derive(Clone, Copy)]
+struct Seen {
+    /// One more than the depth that it had.
+    depth: usize,
+    is_cut_off: bool,
+}
+
+/// Where a search may be.
+#[derive(Drop)]
+struct Scout {
+    /// The goals that are still to be asked, the next one last.
+    asked: Vec<usize>,
+    depth: usize,
+    /// The goals that are gone through, the newest last.
+    open: Vec<Visit>,
+    /// What was seen of each goal, by its number.
+    seen: Vec<Seen>,
+}
+
+/// Makes goals known that a search comes to from these at this depth, so many at most.
+pub(crate) fn scout(
+    alloc: Global,
+    goals: &mut Goals,
+    asked: &[usize],
+    depth: usize,
+    most: usize,
+) -> Result<(), NoMemory>
+    ensures { Extends goals.old goals.new }
+{
+    let mut scout = Scout::new(alloc, asked, depth)?;
+    for _ in 0..most {
+        match scout.next(&*goals)? {
+            Some(goal) => goals.expand(alloc, goal)?,
+            None => return Ok(()),
+        };
+    }
+    Ok(())
+}
+
+impl Scout {
+    fn new(alloc: Global, asked: &[usize], depth: usize) -> Result<Scout, NoMemory> {
+        let mut scout = Scout {
+            asked: Vec::with_capacity(alloc, asked.len())?,
+            depth,
+            open: Vec::new(alloc),
+            seen: Vec::new(alloc),
+        };
+        for goal in asked.iter().rev() {
+            scout.asked.push(*goal)?;
+        }
+        Ok(scout)
+    }
+
+    // Goes on to the next goal that is not known. It is gone through when this is called again.
+    fn next(&mut self, goals: &Goals) -> Result<Option<usize>, NoMemory> {
+        for _ in 0..STEPS {
+            let wanted = match (self.open.pop(), self.asked.last()) {
+                (Some(visit), _) => self.go_on(goals, visit)?,
+                (None, Some(goal)) => {
+                    let goal = *goal;
+                    let _asked = self.asked.pop();
+                    self.enter(goals, goal, self.depth)?
+                }
+                (None, None) => return Ok(None),
+            };
+            if wanted.is_some() {
+                return Ok(wanted);
+            }
+        }
+        Ok(None)
+    }
+
+    // Goes on with the newest goal.
+    fn go_on(&mut self, goals: &Goals, visit: Visit) -> Result<Option<usize>, NoMemory> {
+        let candidate = match goals.candidates(visit.goal) {
+            Some(known) => known.all.get(visit.candidate),
+            None => None,
+        };
+        let Some(candidate) = candidate else {
+            self.leave(visit);
+            return Ok(None);
+        };
+        match candidate.questions.get(visit.place) {
+            Some(goal) => self.ask(goals, visit, *goal),
+            None => {
+                self.open.push(Visit {
+                    candidate: visit.candidate.saturating_add(1),
+                    place: 0,
+                    ..visit
+                })?;
+                Ok(None)
+            }
+        }
+    }
+
+    // Asks a question, or cuts it off.
+    fn ask(&mut self, goals: &Goals, visit: Visit, goal: usize) -> Result<Option<usize>, NoMemory> {
+        self.open.push(Visit {
+            place: visit.place.saturating_add(1),
+            is_cut_off: visit.is_cut_off || visit.depth == 0,
+            ..visit
+        })?;
+        if visit.depth == 0 {
+            return Ok(None);
+        }
+        let depth = if visit.is_cut_off {
+            visit.depth / PART
+        } else {
+            visit.depth - 1
+        };
+        self.enter(goals, goal, depth)
+    }
+
+    // Goes into the goal, unless that was done with as much depth. It is returned if it is not known.
+    fn enter(
+        &mut self,
+        goals: &Goals,
+        goal: usize,
+        depth: usize,
+    ) -> Result<Option<usize>, NoMemory> {
+        for _ in self.seen.len()..goal.saturating_add(1) {
+            self.seen.push(Seen {
+                depth: 0,
+                is_cut_off: false,
+            })?;
+        }
+        if let Some(seen) = self.seen.get_mut(goal) {
+            if seen.depth > depth {
+                let is_cut_off = seen.is_cut_off;
+                self.note(is_cut_off);
+                return Ok(None);
+            }
+            seen.depth = depth.saturating_add(1);
+        }
+        self.open.push(Visit {
+            goal,
+            depth,
+            candidate: 0,
+            place: 0,
+            is_cut_off: false,
+        })?;
+        match goals.candidates(goal) {
+            Some(_) => Ok(None),
+            None => Ok(Some(goal)),
+        }
+    }
+
+    // The goal was gone through.
+    fn leave(&mut self, visit: Visit) {
+        if let Some(seen) = self.seen.get_mut(visit.goal) {
+            seen.is_cut_off = visit.is_cut_off;
+        }
+        self.note(visit.is_cut_off);
+    }
+
+    // Notes of the newest goal whether a question below it was cut off.
+    fn note(&mut self, is_cut_off: bool) {
+        if let Some(visit) = self.open.last_mut() {
+            visit.is_cut_off |= is_cut_off;
+        }
+    }
+}
