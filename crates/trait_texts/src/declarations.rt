@@ -2,10 +2,12 @@
 ghost use Rattle.std.specs.Prelude.{IfOk, length};
 ghost use Rattle.trait_texts.specs.WellFormed.{AreAsked, AreSound};
 
-use crate::cursor::Cursor;
+use crate::machine::Machine;
+use crate::names::Names;
 use crate::reader::Reader;
-use crate::refusal::ReadFault;
+use crate::refusal::{Problem, ReadFault, Refusal, Stop};
 use crate::spelling::Spelling;
+use crate::token::{Token, add_words};
 use std::alloc::Global;
 use trait_rules::{Rules, Terms};
 
@@ -17,7 +19,7 @@ pub struct Source<'a> {
 }
 
 /// Whether the type implements the trait, both by their numbers.
-#[derive(Clone, Copy, Debug, PartialEq, Eq)]
+#[derive(Clone, Copy)]
 pub struct Question {
     pub subject: usize,
     pub bound: usize,
@@ -48,27 +50,103 @@ pub fn read<'a>(
     ensures questions { IfOk result (λ told.
         AreAsked (length told.rules.traits.items) (length told.terms) told.questions.items) }
 {
-    let nothing = Cursor::new(Source {
-        name: b"",
-        text: b"",
-    })?;
-    let mut reader = Reader::new(alloc, nothing, as_rustc)?;
-    for source in sources {
-        reader.cursor = Cursor::new(*source)?;
-        reader.declare_names()?;
+    let mut tokens = Vec::new(alloc);
+    match read_words(alloc, sources, as_rustc, &mut tokens) {
+        Ok(told) => Ok(told),
+        Err(Stop::Memory) => Err(ReadFault::Memory),
+        Err(Stop::Refused(place, problem)) => Err(ReadFault::Refused(refusal_of(
+            sources,
+            tokens.as_slice(),
+            place,
+            problem,
+        ))),
     }
-    for source in sources {
-        reader.cursor = Cursor::new(*source)?;
-        reader.read_items()?;
-    }
-    reader.implement_objects()?;
-    reader.ask_all()?;
-    let (rules, terms, questions) = reader.program.into_parts();
+}
+
+// The same. The words of all texts are left.
+fn read_words<'a>(
+    alloc: Global,
+    sources: &[Source<'a>],
+    as_rustc: bool,
+    tokens: &mut Vec<Token<'a>>,
+) -> Result<Declarations<'a>, Stop>
+    ensures rules { IfOk result (λ told. AreSound told.rules) }
+    ensures questions { IfOk result (λ told.
+        AreAsked (length told.rules.traits.items) (length told.terms) told.questions.items) }
+{
+    let names = split_texts(alloc, sources, tokens)?;
+    let mut reader = Reader::new(alloc, names.len(), as_rustc)?;
+    let depth = read_texts(alloc, &mut reader, tokens.as_slice(), sources.len())?;
+    let Reader {
+        lexicon,
+        forms,
+        program,
+        ..
+    } = reader;
+    let (rules, terms, questions) = program.into_parts();
     Ok(Declarations {
         rules,
         terms,
         questions,
-        depth: reader.depth,
-        spelling: reader.spelling,
+        depth,
+        spelling: Spelling {
+            names,
+            forms: forms.forms,
+            sets: forms.sets,
+            traits: lexicon.trait_names(alloc)?,
+        },
     })
+}
+
+// Adds the words of the texts, and returns their names.
+fn split_texts<'a>(
+    alloc: Global,
+    sources: &[Source<'a>],
+    tokens: &mut Vec<Token<'a>>,
+) -> Result<Vec<&'a [u8]>, Stop> {
+    let mut names = Names::new(alloc)?;
+    let mut file = 0usize;
+    for source in sources {
+        add_words(&mut names, tokens, file, source.text)?;
+        file = file.saturating_add(1);
+    }
+    Ok(names.into_texts())
+}
+
+// Reads the words of so many texts, and returns the limit on depth.
+fn read_texts(
+    alloc: Global,
+    reader: &mut Reader,
+    tokens: &[Token<'_>],
+    count: usize,
+) -> Result<usize, Stop> {
+    let mut machine = Machine::new(alloc, tokens);
+    for _ in 0..count {
+        machine.read_text(reader)?;
+    }
+    reader.finish()?;
+    Ok(machine.depth)
+}
+
+// What is wrong with the word at this place.
+fn refusal_of<'a>(
+    sources: &[Source<'a>],
+    tokens: &[Token<'a>],
+    place: usize,
+    problem: Problem,
+) -> Refusal<'a> {
+    let mut refusal = Refusal {
+        file: b"",
+        line: 0,
+        word: b"",
+        problem,
+    };
+    if let Some(token) = tokens.get(place) {
+        refusal.line = token.place.line;
+        refusal.word = token.text;
+        if let Some(source) = sources.get(token.place.file) {
+            refusal.file = source.name;
+        }
+    }
+    refusal
 }

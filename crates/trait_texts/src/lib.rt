@@ -7,18 +7,20 @@
 #![tactic(auto)]
 
 mod asking;
-mod cursor;
 mod declarations;
 mod draft;
-mod items;
-mod naming;
+mod forms;
+mod grammar;
+mod lexicon;
+mod machine;
+mod names;
+mod open;
 mod program;
 mod reader;
 mod refusal;
-mod scope;
 mod spelling;
+mod step;
 mod token;
-mod types;
 
 pub use declarations::{Declarations, Question, Source, read};
 pub use refusal::{Problem, ReadFault, Refusal};

@@ -1,212 +1,424 @@
-//! What the reading knows.
+//! What is made of the parts of a text.
 
-use crate::cursor::Cursor;
-use crate::declarations::Question;
+use crate::asking::Asking;
 use crate::draft::Draft;
+use crate::forms::{Forms, finish_fields};
+use crate::lexicon::{Lexicon, Word};
+use crate::open::Open;
 use crate::program::Program;
-use crate::refusal::{Problem, ReadFault};
-use crate::spelling::{Form, Spelling};
-use crate::token::Token;
-use search_context::context::NoMemory;
+use crate::refusal::{Problem, Stop};
+use crate::spelling::Form;
+use crate::step::{Doing, Making};
+use search_context::path::PathKind;
 use std::alloc::Global;
-use std::collections::HashMap;
+use std::mem;
 use trait_rules::Bound;
 
-/// What goals a question may nest if no text says so.
-const DEPTH: usize = 128;
-
-/// The types that are built in and have a name.
-const PRIMITIVES: [&[u8]; 18] = [
-    b"!", b"bool", b"char", b"str", b"i8", b"i16", b"i32", b"i64", b"i128", b"isize", b"u8",
-    b"u16", b"u32", b"u64", b"u128", b"usize", b"f32", b"f64",
-];
-
-/// A type or a function of this name: its number, and how many types it takes.
-#[derive(Clone, Copy)]
-pub(crate) struct Named {
-    pub(crate) number: usize,
-    pub(crate) arguments: usize,
-}
-
-/// What tells the constructors from each other that have no name.
-#[derive(Clone, Copy, PartialEq, Eq, Hash)]
-pub(crate) enum Key<'a> {
-    Reference,
-    MutableReference,
-    ConstantPointer,
-    MutablePointer,
-    Slice,
-    Array(&'a [u8]),
-    /// Of so many parts.
-    Tuple(usize),
-    /// Of so many arguments and a result.
-    Function(usize),
-    /// By the number of its set of traits.
-    Dyn(usize),
-}
-
-/// A `dyn` type, by its constructor, and the traits that it names.
+/// The item or the question that is read.
 #[derive(Drop)]
-pub(crate) struct Object {
-    pub(crate) constructor: usize,
-    pub(crate) traits: Vec<usize>,
+pub(crate) struct Item {
+    pub(crate) word: Word,
+    pub(crate) parameters: Vec<Word>,
+    pub(crate) draft: Draft,
+    // Whether its bounds say something.
+    says: bool,
+    // The shape of `Self`.
+    own: Option<usize>,
+    // That of which bounds are read.
+    subject: usize,
+    // The trait of an impl, and the trait that is declared.
+    bound: usize,
+    is_positive: bool,
 }
 
-/// What is asked once all is read.
-#[derive(Drop)]
-pub(crate) enum Pending {
-    Question(Question),
-    Call {
-        function: usize,
-        arguments: Vec<usize>,
-    },
+impl Item {
+    fn new(alloc: Global, word: Word, says: bool) -> Item {
+        Item {
+            word,
+            parameters: Vec::new(alloc),
+            draft: Draft::new(alloc),
+            says,
+            own: None,
+            subject: 0,
+            bound: 0,
+            is_positive: true,
+        }
+    }
 }
 
 /// What is known by the place that is reached.
 #[derive(Drop)]
-pub(crate) struct Reader<'a> {
-    pub(crate) alloc: Global,
-    pub(crate) as_rustc: bool,
-    pub(crate) cursor: Cursor<'a>,
-    pub(crate) types: HashMap<&'a [u8], Named>,
-    pub(crate) traits: HashMap<&'a [u8], usize>,
-    pub(crate) functions: HashMap<&'a [u8], Named>,
-    // The constructors that have no name.
-    pub(crate) keys: HashMap<Key<'a>, usize>,
-    // Sets of traits, each by the set without its last trait, if there is one, and by that trait.
-    pub(crate) sets: HashMap<(Option<usize>, usize), usize>,
-    pub(crate) objects: Vec<Object>,
-    // The supertraits of each trait.
-    pub(crate) above: Vec<Vec<usize>>,
-    // What a call of each function asks.
-    pub(crate) templates: Vec<Draft>,
-    pub(crate) pending: Vec<Pending>,
+pub(crate) struct Reader {
+    alloc: Global,
+    as_rustc: bool,
+    pub(crate) lexicon: Lexicon,
+    pub(crate) forms: Forms,
+    pub(crate) asking: Asking,
     pub(crate) program: Program,
-    pub(crate) spelling: Spelling<'a>,
-    pub(crate) depth: usize,
+    open: Open,
+    item: Item,
 }
 
-impl<'a> Reader<'a> {
-    /// Nothing is known but what is built in.
-    pub(crate) fn new(
-        alloc: Global,
-        cursor: Cursor<'a>,
-        as_rustc: bool,
-    ) -> Result<Reader<'a>, ReadFault<'a>> {
-        let mut reader = Reader {
+impl Reader {
+    /// So many names, of which nothing is known but what is built in.
+    pub(crate) fn new(alloc: Global, names: usize, as_rustc: bool) -> Result<Reader, Stop> {
+        let word = Word { name: 0, place: 0 };
+        Ok(Reader {
             alloc,
             as_rustc,
-            cursor,
-            types: HashMap::new(alloc),
-            traits: HashMap::new(alloc),
-            functions: HashMap::new(alloc),
-            keys: HashMap::new(alloc),
-            sets: HashMap::new(alloc),
-            objects: Vec::new(alloc),
-            above: Vec::new(alloc),
-            templates: Vec::new(alloc),
-            pending: Vec::new(alloc),
+            lexicon: Lexicon::new(alloc, names)?,
+            forms: Forms::new(alloc),
+            asking: Asking::new(alloc),
             program: Program::new(alloc),
-            spelling: Spelling::new(alloc),
-            depth: DEPTH,
+            open: Open::new(alloc),
+            item: Item::new(alloc, word, true),
+        })
+    }
+
+    /// Makes a part of a type, or of bounds.
+    pub(crate) fn make(&mut self, making: Making, word: Word) -> Result<(), Stop> {
+        match making {
+            Making::Begin => self.open.begin(word),
+            Making::EndPath => self.end_path(),
+            Making::EndParentheses => self.open.leave(),
+            Making::EndTuple => self.end_tuple(),
+            Making::EndFunction => self.end_function(),
+            Making::End(form) => self.end_type(form),
+            Making::EndArray => self.end_type(Form::Array(word.name)),
+            Making::Own => self.make_own(word),
+            Making::Dyn => self.make_dyn(word),
+            Making::Bound => self.add_bound(word),
+        }
+    }
+
+    fn end_tuple(&mut self) -> Result<(), Stop> {
+        let count = self.open.part_count();
+        self.end_type(Form::Tuple(count))
+    }
+
+    // The last part is the result.
+    fn end_function(&mut self) -> Result<(), Stop> {
+        let count = self.open.part_count();
+        self.end_type(Form::Function(count.saturating_sub(1)))
+    }
+
+    fn make_own(&mut self, word: Word) -> Result<(), Stop> {
+        match self.item.own {
+            Some(own) => self.open.put(own),
+            None => Err(Stop::Refused(word.place, Problem::NoSelf)),
+        }
+    }
+
+    fn add_bound(&mut self, word: Word) -> Result<(), Stop> {
+        let number = self.trait_number(word)?;
+        self.open.add_bound(number)
+    }
+
+    // The type of this form, with the parts of the type that began last.
+    fn end_type(&mut self, form: Form) -> Result<(), Stop> {
+        let constructor = self.forms.constructor(self.alloc, &mut self.program, form)?;
+        let start = self.open.end()?;
+        self.end_parts(constructor, start.first)
+    }
+
+    // The type of the constructor, with the parts from this number on.
+    fn end_parts(&mut self, constructor: usize, first: usize) -> Result<(), Stop> {
+        let parts = self.open.parts_from(first);
+        let shape = self.item.draft.applied_to(constructor, parts)?;
+        self.open.drop_parts(first);
+        self.open.put(shape)
+    }
+
+    // A parameter takes no arguments.
+    fn end_path(&mut self) -> Result<(), Stop> {
+        let start = self.open.end()?;
+        let count = self.open.parts_from(start.first).len();
+        if let Some(shape) = self.lexicon.meaning(start.word.name).parameter {
+            if count > 0 {
+                return Err(Stop::Refused(start.word.place, Problem::Arguments(0)));
+            }
+            return self.open.put(shape);
+        }
+        self.lexicon.note_use(start.word, count)?;
+        let form = Form::Path(start.word.name);
+        let constructor = self.forms.constructor(self.alloc, &mut self.program, form)?;
+        self.end_parts(constructor, start.first)
+    }
+
+    fn make_dyn(&mut self, word: Word) -> Result<(), Stop> {
+        let traits = self.open.take_bounds(self.alloc);
+        if traits.is_empty() {
+            return Err(Stop::Refused(behind(word), Problem::NoTrait));
+        }
+        let constructor = self.forms.object(self.alloc, &mut self.program, traits)?;
+        let shape = self.item.draft.constructor(constructor)?;
+        self.open.put(shape)
+    }
+
+    // The number of the trait that the word names.
+    fn trait_number(&mut self, word: Word) -> Result<usize, Stop> {
+        let count = self.lexicon.trait_count();
+        let number = self.lexicon.trait_number(self.alloc, word)?;
+        if number == count {
+            self.program.add_trait(self.alloc)?;
+        }
+        Ok(number)
+    }
+
+    /// Does what follows from words of an item or a question.
+    pub(crate) fn act(&mut self, doing: Doing, word: Word) -> Result<(), Stop> {
+        match doing {
+            Doing::BeginItem => self.begin_item(word, true),
+            Doing::BeginType => self.begin_item(word, false),
+            Doing::NameItem => self.name_item(word),
+            Doing::EndType => self.end_type_item(),
+            Doing::Trait(is_auto, is_coinductive) => {
+                self.declare_trait(word, is_auto, is_coinductive)
+            }
+            Doing::SetAbove => self.set_above(),
+            Doing::Negate => self.negate(),
+            Doing::SetTrait => self.set_trait(word),
+            Doing::SetHead => self.set_head(),
+            Doing::EndImpl => self.end_impl(),
+            Doing::Parameter => self.add_parameter(word),
+            Doing::Subject => self.set_subject(),
+            Doing::EndBounds => self.end_bounds(),
+            Doing::Field => self.add_field(),
+            Doing::EndSignature => self.end_signature(),
+            Doing::Ask => self.end_question(word),
+            Doing::BeginCall => self.begin_call(word),
+            Doing::EndCall => self.end_call(),
+        }
+    }
+
+    fn name_item(&mut self, word: Word) -> Result<(), Stop> {
+        self.item.word = word;
+        Ok(())
+    }
+
+    fn negate(&mut self) -> Result<(), Stop> {
+        self.item.is_positive = false;
+        Ok(())
+    }
+
+    fn set_above(&mut self) -> Result<(), Stop> {
+        let above = self.open.take_bounds(self.alloc);
+        self.lexicon.set_above(self.item.bound, above);
+        Ok(())
+    }
+
+    fn set_trait(&mut self, word: Word) -> Result<(), Stop> {
+        self.item.bound = self.trait_number(word)?;
+        Ok(())
+    }
+
+    fn set_subject(&mut self) -> Result<(), Stop> {
+        self.item.subject = self.open.take()?;
+        Ok(())
+    }
+
+    fn add_field(&mut self) -> Result<(), Stop> {
+        let shape = self.open.take()?;
+        self.item.draft.ask(shape, Bound::Same)?;
+        Ok(())
+    }
+
+    // The parameters of the item before mean nothing more.
+    fn begin_item(&mut self, word: Word, says: bool) -> Result<(), Stop> {
+        for parameter in self.item.parameters.iter() {
+            self.lexicon.set_parameter(parameter.name, None);
+        }
+        self.item = Item::new(self.alloc, word, says);
+        Ok(())
+    }
+
+    fn add_parameter(&mut self, word: Word) -> Result<(), Stop> {
+        if self.lexicon.meaning(word.name).parameter.is_some() {
+            return Err(Stop::Refused(word.place, Problem::Twice));
+        }
+        let shape = self.item.draft.parameter()?;
+        self.lexicon.set_parameter(word.name, Some(shape));
+        self.item.parameters.push(word)?;
+        self.item.subject = shape;
+        Ok(())
+    }
+
+    // Asks what the bounds of a type say.
+    fn end_bounds(&mut self) -> Result<(), Stop> {
+        let bounds = self.open.take_bounds(self.alloc);
+        if self.item.says {
+            for bound in bounds.as_slice() {
+                self.item
+                    .draft
+                    .ask(self.item.subject, Bound::Trait(*bound))?;
+            }
+        }
+        Ok(())
+    }
+
+    // The draft of the item, in whose place is an empty one.
+    fn take_draft(&mut self) -> Draft {
+        mem::replace(&mut self.item.draft, Draft::new(self.alloc))
+    }
+
+    fn end_type_item(&mut self) -> Result<(), Stop> {
+        let word = self.item.word;
+        let count = self.item.parameters.len();
+        self.lexicon.declare_type(word, count)?;
+        let form = Form::Path(word.name);
+        let constructor = self.forms.constructor(self.alloc, &mut self.program, form)?;
+        let draft = self.take_draft();
+        finish_fields(&mut self.program, constructor, count, draft)
+    }
+
+    fn declare_trait(
+        &mut self,
+        word: Word,
+        is_auto: bool,
+        is_coinductive: bool,
+    ) -> Result<(), Stop> {
+        let number = self.trait_number(word)?;
+        self.lexicon.declare_trait(word, number)?;
+        let kind = match (is_coinductive, self.as_rustc) {
+            (true, _) => PathKind::Coinductive,
+            (false, true) => PathKind::Unknown,
+            (false, false) => PathKind::Inductive,
         };
-        for name in PRIMITIVES {
-            let number = reader.add_constructor(Form::Path(name))?;
-            reader.types.insert(
-                name,
-                Named {
-                    number,
-                    arguments: 0,
-                },
+        self.program.set_trait(number, kind, is_auto);
+        self.item.bound = number;
+        Ok(())
+    }
+
+    // Each parameter has to stand in the type that the impl is for.
+    fn set_head(&mut self) -> Result<(), Stop> {
+        let head = self.open.take()?;
+        let count = self.item.parameters.len();
+        if let Some(place) = self.item.draft.unused(self.alloc, count, head)?
+            && let Some(parameter) = self.item.parameters.get(place)
+        {
+            return Err(Stop::Refused(parameter.place, Problem::Unconstrained));
+        }
+        self.item.own = Some(head);
+        Ok(())
+    }
+
+    fn end_impl(&mut self) -> Result<(), Stop> {
+        let head = self.item.own.ok_or(Stop::Memory)?;
+        let draft = self.take_draft();
+        self.program
+            .implement(self.item.bound, draft, head, self.item.is_positive)?;
+        Ok(())
+    }
+
+    fn end_signature(&mut self) -> Result<(), Stop> {
+        let draft = self.take_draft();
+        let function = self.asking.add_function(self.item.parameters.len(), draft)?;
+        self.lexicon.declare_function(self.item.word, function)
+    }
+
+    // The types of some shapes of the draft, in whose place is an empty one.
+    fn take_types(&mut self, shapes: &[usize]) -> Result<Vec<usize>, Stop> {
+        let draft = self.take_draft();
+        let types = self.program.types_of(self.alloc, draft.shapes(), &[])?;
+        let mut taken = Vec::with_capacity(self.alloc, shapes.len())?;
+        for shape in shapes {
+            taken.push(types.get(*shape).copied().ok_or(Stop::Memory)?)?;
+        }
+        Ok(taken)
+    }
+
+    fn end_question(&mut self, word: Word) -> Result<(), Stop> {
+        let shape = self.open.take()?;
+        let bounds = self.open.take_bounds(self.alloc);
+        if bounds.is_empty() {
+            return Err(Stop::Refused(behind(word), Problem::NoTrait));
+        }
+        let types = self.take_types(&[shape])?;
+        self.asking.ask(types.as_slice(), bounds.as_slice())
+    }
+
+    fn begin_call(&mut self, word: Word) -> Result<(), Stop> {
+        if !self.item.parameters.is_empty() {
+            return Err(Stop::Refused(word.place, Problem::Body));
+        }
+        self.open.begin(word)
+    }
+
+    fn end_call(&mut self) -> Result<(), Stop> {
+        let start = self.open.end()?;
+        let shapes = Vec::from_slice(self.alloc, self.open.parts_from(start.first))?;
+        self.open.drop_parts(start.first);
+        let arguments = self.take_types(shapes.as_slice())?;
+        self.asking.call(start.word, arguments)
+    }
+
+    /// What can be done once all is read: all that is named has to be declared, and all is asked.
+    pub(crate) fn finish(&mut self) -> Result<(), Stop> {
+        self.lexicon.check()?;
+        self.implement_objects()?;
+        self.asking
+            .ask_all(self.alloc, &self.lexicon, &mut self.program)
+    }
+
+    // Each `dyn` type implements the traits that it names, and those above them.
+    fn implement_objects(&mut self) -> Result<(), Stop> {
+        let mut met = vec![in self.alloc; usize::MAX; self.lexicon.trait_count()]?;
+        for (number, object) in self.forms.objects.iter().enumerate() {
+            let traits = object.traits.as_slice();
+            let all = all_above(self.alloc, &self.lexicon, &mut met, number, traits)?;
+            implement_all(
+                self.alloc,
+                &mut self.program,
+                object.constructor,
+                all.as_slice(),
             )?;
-            reader.enter_fields(number, 0, 0)?;
         }
-        Ok(reader)
-    }
-
-    /// One more constructor, whose types are written so.
-    pub(crate) fn add_constructor(&mut self, form: Form<'a>) -> Result<usize, NoMemory> {
-        self.spelling.forms.push(form)?;
-        self.program.add_constructor(self.alloc)
-    }
-
-    /// The constructor of this key.
-    pub(crate) fn constructor(&mut self, key: Key<'a>) -> Result<usize, NoMemory> {
-        if let Some(constructor) = self.keys.get(&key) {
-            return Ok(*constructor);
-        }
-        let constructor = self.add_constructor(form_of(key, self.alloc))?;
-        self.keys.insert(key, constructor)?;
-        match key {
-            Key::Reference
-            | Key::MutableReference
-            | Key::ConstantPointer
-            | Key::MutablePointer
-            | Key::Slice
-            | Key::Array(_) => self.enter_fields(constructor, 1, 1)?,
-            Key::Tuple(count) => self.enter_fields(constructor, count, count)?,
-            Key::Function(count) => self.enter_fields(constructor, count.saturating_add(1), 0)?,
-            Key::Dyn(_) => {}
-        }
-        Ok(constructor)
-    }
-
-    // The rule by fields of a constructor with so many arguments, the first of which are its fields.
-    fn enter_fields(
-        &mut self,
-        constructor: usize,
-        arguments: usize,
-        fields: usize,
-    ) -> Result<(), NoMemory> {
-        let mut draft = Draft::with_parameters(self.alloc, arguments)?;
-        for field in 0..fields {
-            draft.ask(field, Bound::Same)?;
-        }
-        self.finish_fields(constructor, arguments, draft)
-    }
-
-    /// The rule by fields of a constructor with so many arguments, the parameters of the draft.
-    pub(crate) fn finish_fields(
-        &mut self,
-        constructor: usize,
-        arguments: usize,
-        mut draft: Draft,
-    ) -> Result<(), NoMemory> {
-        let mut head = draft.constructor(constructor)?;
-        for argument in 0..arguments {
-            head = draft.applied(head, argument)?;
-        }
-        self.program.set_fields(draft, head)
-    }
-
-    /// The number of the trait that the word names.
-    pub(crate) fn trait_number(&self, token: Token<'a>) -> Result<usize, ReadFault<'a>> {
-        match self.traits.get(token.text) {
-            Some(number) => Ok(*number),
-            None => Err(self.cursor.refusal(token, Problem::UnknownTrait)),
-        }
-    }
-
-    /// The type that the word names.
-    pub(crate) fn named_type(&self, token: Token<'a>) -> Result<Named, ReadFault<'a>> {
-        match self.types.get(token.text) {
-            Some(named) => Ok(*named),
-            None => Err(self.cursor.refusal(token, Problem::UnknownType)),
-        }
+        Ok(())
     }
 }
 
-// How types of a constructor without a name are written.
-fn form_of<'a>(key: Key<'a>, alloc: Global) -> Form<'a> {
-    match key {
-        Key::Reference => Form::Before(b"&"),
-        Key::MutableReference => Form::Before(b"&mut "),
-        Key::ConstantPointer => Form::Before(b"*const "),
-        Key::MutablePointer => Form::Before(b"*mut "),
-        Key::Slice => Form::Slice,
-        Key::Array(length) => Form::Array(length),
-        Key::Tuple(_) => Form::Tuple,
-        Key::Function(_) => Form::Function,
-        Key::Dyn(_) => Form::Dyn(Vec::new(alloc)),
+// The place behind a word.
+fn behind(word: Word) -> usize {
+    word.place.saturating_add(1)
+}
+
+// These traits and those above them, each once. `met` has for each trait the number of the last type for which it was met.
+fn all_above(
+    alloc: Global,
+    lexicon: &Lexicon,
+    met: &mut Vec<usize>,
+    number: usize,
+    traits: &[usize],
+) -> Result<Vec<usize>, Stop> {
+    let mut found = Vec::new(alloc);
+    let mut left = Vec::from_slice(alloc, traits)?;
+    for _ in 0..u64::MAX {
+        let Some(bound) = left.pop() else {
+            break;
+        };
+        let Some(last) = met.get_mut(bound) else {
+            continue;
+        };
+        if *last != number {
+            *last = number;
+            found.push(bound)?;
+            left.extend_from_slice(lexicon.above(bound))?;
+        }
     }
+    Ok(found)
+}
+
+// A constructor without arguments implements all these traits.
+fn implement_all(
+    alloc: Global,
+    program: &mut Program,
+    constructor: usize,
+    traits: &[usize],
+) -> Result<(), Stop> {
+    for bound in traits {
+        let mut draft = Draft::new(alloc);
+        let head = draft.constructor(constructor)?;
+        program.implement(*bound, draft, head, true)?;
+    }
+    Ok(())
 }

@@ -1,48 +1,56 @@
 //! Why a text is refused.
-ghost use Rattle.std.specs.Prelude.{◌≡◌};
 
 use search_context::context::NoMemory;
 use std::alloc::{AllocError, AllocFailed, Global};
 use std::fmt::Write;
-use thiserror::Error;
 
 /// What is wrong with a word of a text.
-#[derive(Clone, Copy, Debug, PartialEq, Eq, Error)]
+#[derive(Clone, Copy)]
 pub enum Problem {
-    #[error("`{0}` is expected here")]
+    /// Another word is expected.
     Expected(&'static str),
-    #[error("a name is expected here")]
     NoName,
-    #[error("a number is expected here")]
     NoNumber,
-    #[error("a type is expected here")]
     NoType,
-    #[error("a trait is expected here")]
     NoTrait,
-    #[error("no item and no question begins so")]
     NoItem,
-    #[error("this attribute is not read")]
     Attribute,
-    #[error("this is no limit")]
     Limit,
-    #[error("the comment has no end")]
     OpenComment,
-    #[error("this name is declared twice")]
     Twice,
-    #[error("no type has this name")]
     UnknownType,
-    #[error("no trait has this name")]
     UnknownTrait,
-    #[error("no function has this name")]
     UnknownFunction,
-    #[error("the number of its arguments is {0}")]
+    /// It takes another number of arguments, which is this one.
     Arguments(usize),
-    #[error("there is no `Self` here")]
     NoSelf,
-    #[error("the parameter has to stand in the type of the impl (E0207)")]
     Unconstrained,
-    #[error("the body of a function with parameters has to be empty")]
     Body,
+}
+
+impl Problem {
+    // The words for it, before a word or a number that it has.
+    fn words(self) -> &'static [u8] {
+        match self {
+            Problem::Expected(_) => b"this word is expected here: ",
+            Problem::NoName => b"a name is expected here",
+            Problem::NoNumber => b"a number is expected here",
+            Problem::NoType => b"a type is expected here",
+            Problem::NoTrait => b"a trait is expected here",
+            Problem::NoItem => b"no item and no question begins so",
+            Problem::Attribute => b"this attribute is not read",
+            Problem::Limit => b"this is no limit",
+            Problem::OpenComment => b"the comment has no end",
+            Problem::Twice => b"this name is declared twice",
+            Problem::UnknownType => b"no type has this name",
+            Problem::UnknownTrait => b"no trait has this name",
+            Problem::UnknownFunction => b"no function has this name",
+            Problem::Arguments(_) => b"the number of its arguments is",
+            Problem::NoSelf => b"there is no `Self` here",
+            Problem::Unconstrained => b"the parameter has to stand in the type of the impl (E0207)",
+            Problem::Body => b"the body of a function with parameters has to be empty",
+        }
+    }
 }
 
 /// A text is refused for the word that stands there. Lines are counted from 1.
@@ -59,22 +67,36 @@ pub struct Refusal<'a> {
 impl<'a> Refusal<'a> {
     /// Writes `FILE:LINE: WORD: what is wrong`, without a newline. The word is `end` where the text is at its end.
     pub fn write(&self, alloc: Global, text: &mut Vec<u8>) -> Result<(), NoMemory> {
-        let line = self.line;
-        let problem = self.problem;
-        let mut told = String::new(alloc);
-        write!(told, ":{line}: ")?;
         text.extend_from_slice(self.file)?;
-        text.extend_from_slice(told.as_bytes())?;
-        text.extend_from_slice(if self.word.is_empty() {
-            b"end"
-        } else {
-            self.word
+        write_number(alloc, text, b":", self.line)?;
+        text.extend_from_slice(b": ")?;
+        text.extend_from_slice(match self.word {
+            [] => b"end",
+            word => word,
         })?;
-        told.clear();
-        write!(told, ": {problem}")?;
-        text.extend_from_slice(told.as_bytes())?;
+        text.extend_from_slice(b": ")?;
+        text.extend_from_slice(self.problem.words())?;
+        match self.problem {
+            Problem::Expected(word) => text.extend_from_slice(word.as_bytes())?,
+            Problem::Arguments(count) => write_number(alloc, text, b" ", count)?,
+            _ => {}
+        }
         Ok(())
     }
+}
+
+// Writes a number behind a mark.
+fn write_number(
+    alloc: Global,
+    text: &mut Vec<u8>,
+    mark: &[u8],
+    number: usize,
+) -> Result<(), NoMemory> {
+    let mut digits = String::new(alloc);
+    write!(digits, "{number}")?;
+    text.extend_from_slice(mark)?;
+    text.extend_from_slice(digits.as_bytes())?;
+    Ok(())
 }
 
 /// Why texts were not read.
@@ -84,32 +106,27 @@ pub enum ReadFault<'a> {
     Memory,
 }
 
-impl<'a> From<AllocError> for ReadFault<'a> {
-    ghost use Rattle.trait_texts.specs.declared.refusal.ReadFault.TheVariants.{Memory};
+/// Why the reading stops: there is a problem with the word at this place, or memory is out.
+#[derive(Clone, Copy)]
+pub(crate) enum Stop {
+    Refused(usize, Problem),
+    Memory,
+}
 
-    ghost from_gives = { λ _ fault. fault ≡ Memory };
-
-    fn from(_error: AllocError) -> ReadFault<'a> {
-        ReadFault::Memory
+impl From<AllocError> for Stop {
+    fn from(_error: AllocError) -> Stop {
+        Stop::Memory
     }
 }
 
-impl<'a> From<NoMemory> for ReadFault<'a> {
-    ghost use Rattle.trait_texts.specs.declared.refusal.ReadFault.TheVariants.{Memory};
-
-    ghost from_gives = { λ _ fault. fault ≡ Memory };
-
-    fn from(_error: NoMemory) -> ReadFault<'a> {
-        ReadFault::Memory
+impl From<NoMemory> for Stop {
+    fn from(_error: NoMemory) -> Stop {
+        Stop::Memory
     }
 }
 
-impl<'a, T: Drop> From<AllocFailed<T>> for ReadFault<'a> {
-    ghost use Rattle.trait_texts.specs.declared.refusal.ReadFault.TheVariants.{Memory};
-
-    ghost from_gives = { λ _ fault. fault ≡ Memory };
-
-    fn from(_error: AllocFailed<T>) -> ReadFault<'a> {
-        ReadFault::Memory
+impl<T: Drop> From<AllocFailed<T>> for Stop {
+    fn from(_error: AllocFailed<T>) -> Stop {
+        Stop::Memory
     }
 }

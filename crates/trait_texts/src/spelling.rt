@@ -2,30 +2,45 @@
 
 use search_context::context::NoMemory;
 use std::alloc::Global;
-use trait_rules::{Made, Terms};
+use trait_rules::{Key, Made, Numbered, Terms};
 
-/// How the types of a constructor are written.
-#[derive(Drop)]
-pub(crate) enum Form<'a> {
+/// How the types of a constructor are written. Names and numbers stand here by their numbers.
+#[derive(Clone, Copy, PartialEq, Eq, Hash, Drop)]
+pub(crate) enum Form {
     /// A name, with arguments in angle brackets.
-    Path(&'a [u8]),
-    /// What stands before another type: `&`, `&mut `, `*const `, `*mut `.
-    Before(&'static [u8]),
+    Path(usize),
+    Reference,
+    MutableReference,
+    ConstantPointer,
+    MutablePointer,
     Slice,
     /// An array of this length.
-    Array(&'a [u8]),
-    Tuple,
-    /// `fn`, of which the last argument is the result.
-    Function,
-    /// `dyn` and the names of traits.
-    Dyn(Vec<&'a [u8]>),
+    Array(usize),
+    /// Of so many parts.
+    Tuple(usize),
+    /// `fn` of so many arguments. The last part is the result.
+    Function(usize),
+    /// `dyn` and this set of traits.
+    Dyn(usize),
+}
+
+impl Key for Form {
+    ghost use Rattle.std.proofs.Common.{rules};
+
+    ghost same_key = { Prim.search rules };
 }
 
 /// The names of types and traits.
 #[derive(Drop)]
 pub struct Spelling<'a> {
-    pub(crate) forms: Vec<Form<'a>>,
-    pub(crate) traits: Vec<&'a [u8]>,
+    /// The names by their numbers.
+    pub(crate) names: Vec<&'a [u8]>,
+    /// The forms of the constructors.
+    pub(crate) forms: Numbered<Form>,
+    /// Sets of traits: a trait, or a set with one more.
+    pub(crate) sets: Numbered<Made>,
+    /// The names of the traits.
+    pub(crate) traits: Vec<usize>,
 }
 
 // What is still to be written.
@@ -33,28 +48,60 @@ pub struct Spelling<'a> {
 enum Piece<'a> {
     Text(&'a [u8]),
     Type(usize),
+    /// A type behind another one and a comma.
+    Next(usize),
     /// A type before which a mark stands: it is in parentheses where it has several bounds.
     Marked(usize),
+}
+
+// What is written, and what is still to be written, the last one first.
+#[derive(Drop)]
+struct Page<'a> {
+    text: Vec<u8>,
+    pieces: Vec<Piece<'a>>,
 }
 
 // A type with its arguments, the last of which comes first.
 #[derive(Drop)]
 struct Spread {
-    constructor: usize,
+    form: Form,
     arguments: Vec<usize>,
 }
 
-impl<'a> Spelling<'a> {
-    pub(crate) fn new(alloc: Global) -> Spelling<'a> {
-        Spelling {
-            forms: Vec::new(alloc),
-            traits: Vec::new(alloc),
-        }
+impl<'a> Page<'a> {
+    fn write(&mut self, text: &[u8]) -> Result<(), NoMemory> {
+        self.text.extend_from_slice(text)?;
+        Ok(())
     }
 
+    fn later(&mut self, piece: Piece<'a>) -> Result<(), NoMemory> {
+        self.pieces.push(piece)?;
+        Ok(())
+    }
+
+    // Types with commas between them, and a text behind them. They come from the last one on.
+    fn lay_out(&mut self, arguments: &[usize], behind: &'a [u8]) -> Result<(), NoMemory> {
+        self.later(Piece::Text(behind))?;
+        let Some((first, others)) = arguments.split_last() else {
+            return Ok(());
+        };
+        for argument in others {
+            self.later(Piece::Next(*argument))?;
+        }
+        self.later(Piece::Type(*first))
+    }
+}
+
+impl<'a> Spelling<'a> {
     /// The name of the trait of this number, if there is one.
     pub fn trait_name(&self, number: usize) -> Option<&'a [u8]> {
-        self.traits.get(number).copied()
+        let name = *self.traits.get(number)?;
+        self.names.get(name).copied()
+    }
+
+    // The name of this number.
+    fn name(&self, number: usize) -> &'a [u8] {
+        self.names.get(number).copied().unwrap_or(b"")
     }
 
     /// Writes the type of this number as Rust does: nothing, where there is no such type. Only memory may be wanting.
@@ -65,186 +112,203 @@ impl<'a> Spelling<'a> {
         terms: &Terms,
         number: usize,
     ) -> Result<(), NoMemory> {
-        let mut pieces = Vec::new(alloc);
-        pieces.push(Piece::Type(number))?;
-        for _ in 0..u64::MAX {
-            match pieces.pop() {
-                None => return Ok(()),
-                Some(Piece::Text(piece)) => text.extend_from_slice(piece)?,
-                Some(Piece::Type(number)) => {
-                    if let Some(spread) = spread_of(alloc, terms, number)? {
-                        self.lay_out(&mut pieces, terms, &spread)?;
-                    }
-                }
-                Some(Piece::Marked(number)) => {
-                    if let Some(spread) = spread_of(alloc, terms, number)? {
-                        self.lay_out_marked(&mut pieces, terms, &spread)?;
-                    }
-                }
-            }
-        }
-        Err(NoMemory)
-    }
-
-    // Puts what the type consists of on the pieces, the last one first.
-    fn lay_out<'b>(
-        &'b self,
-        pieces: &mut Vec<Piece<'b>>,
-        terms: &Terms,
-        spread: &Spread,
-    ) -> Result<(), NoMemory> {
-        let arguments = spread.arguments.as_slice();
-        match self.forms.get(spread.constructor) {
-            None => Ok(()),
-            Some(Form::Path(name)) => lay_out_path(pieces, name, arguments),
-            Some(Form::Before(mark)) => lay_out_behind(pieces, mark, arguments),
-            Some(Form::Slice) => lay_out_between(pieces, b"[", arguments, b"]"),
-            Some(Form::Array(length)) => {
-                pieces.push(Piece::Text(b"]"))?;
-                pieces.push(Piece::Text(length))?;
-                lay_out_between(pieces, b"[", arguments, b"; ")
-            }
-            Some(Form::Tuple) if arguments.len() == 1 => {
-                lay_out_between(pieces, b"(", arguments, b",)")
-            }
-            Some(Form::Tuple) => lay_out_between(pieces, b"(", arguments, b")"),
-            Some(Form::Function) => {
-                let is_unit = match arguments.first() {
-                    Some(last) => self.is_unit(terms, *last),
-                    None => false,
-                };
-                lay_out_function(pieces, arguments, is_unit)
-            }
-            Some(Form::Dyn(names)) => lay_out_dyn(pieces, names.as_slice()),
-        }
-    }
-
-    // Whether the type is `()`.
-    fn is_unit(&self, terms: &Terms, number: usize) -> bool {
-        match terms.get(number) {
-            Some(Made::Constructor(constructor)) => {
-                matches!(self.forms.get(constructor), Some(Form::Tuple))
-            }
-            _ => false,
-        }
-    }
-
-    // The same, in parentheses where the type has several bounds.
-    fn lay_out_marked<'b>(
-        &'b self,
-        pieces: &mut Vec<Piece<'b>>,
-        terms: &Terms,
-        spread: &Spread,
-    ) -> Result<(), NoMemory> {
-        let has_several = match self.forms.get(spread.constructor) {
-            Some(Form::Dyn(names)) => names.len() > 1,
-            _ => false,
+        let mut page = Page {
+            text: Vec::new(alloc),
+            pieces: Vec::new(alloc),
         };
-        if has_several {
-            pieces.push(Piece::Text(b")"))?;
+        page.later(Piece::Type(number))?;
+        for _ in 0..u64::MAX {
+            let Some(piece) = page.pieces.pop() else {
+                break;
+            };
+            self.write_piece(alloc, &mut page, terms, piece)?;
         }
-        self.lay_out(pieces, terms, spread)?;
-        if has_several {
-            pieces.push(Piece::Text(b"("))?;
+        text.extend_from_slice(page.text.as_slice())?;
+        Ok(())
+    }
+
+    // Writes what a piece begins with.
+    fn write_piece(
+        &self,
+        alloc: Global,
+        page: &mut Page<'a>,
+        terms: &Terms,
+        piece: Piece<'a>,
+    ) -> Result<(), NoMemory> {
+        match piece {
+            Piece::Text(text) => page.write(text),
+            Piece::Type(number) => self.begin_type(alloc, page, terms, number),
+            Piece::Next(number) => {
+                page.write(b", ")?;
+                self.begin_type(alloc, page, terms, number)
+            }
+            Piece::Marked(number) => self.begin_marked(alloc, page, terms, number),
+        }
+    }
+
+    // Begins a type, in parentheses where it has several bounds.
+    fn begin_marked(
+        &self,
+        alloc: Global,
+        page: &mut Page<'a>,
+        terms: &Terms,
+        number: usize,
+    ) -> Result<(), NoMemory> {
+        if self.has_several(terms, number) {
+            page.write(b"(")?;
+            page.later(Piece::Text(b")"))?;
+        }
+        self.begin_type(alloc, page, terms, number)
+    }
+
+    // Whether the type is a `dyn` type of several traits.
+    fn has_several(&self, terms: &Terms, number: usize) -> bool {
+        match self.form_of(terms, number) {
+            Some(Form::Dyn(set)) => matches!(self.sets.get(set), Some(Made::Applied(_, _))),
+            _ => false,
+        }
+    }
+
+    // The form of a type without arguments.
+    fn form_of(&self, terms: &Terms, number: usize) -> Option<Form> {
+        match terms.get(number) {
+            Some(Made::Constructor(constructor)) => self.forms.get(constructor),
+            _ => None,
+        }
+    }
+
+    // Writes what a type begins with, and puts its parts on the pieces.
+    fn begin_type(
+        &self,
+        alloc: Global,
+        page: &mut Page<'a>,
+        terms: &Terms,
+        number: usize,
+    ) -> Result<(), NoMemory> {
+        let Some(spread) = self.spread_of(alloc, terms, number)? else {
+            return Ok(());
+        };
+        let form = spread.form;
+        let arguments = spread.arguments.as_slice();
+        match form {
+            Form::Path(name) => self.begin_path(page, name, arguments),
+            Form::Array(length) => self.begin_array(page, length, arguments),
+            Form::Function(_) => self.begin_function(page, terms, arguments),
+            Form::Dyn(set) => self.write_dyn(alloc, page, set),
+            form => begin_marks(page, form, arguments),
+        }
+    }
+
+    fn begin_path(
+        &self,
+        page: &mut Page<'a>,
+        name: usize,
+        arguments: &[usize],
+    ) -> Result<(), NoMemory> {
+        page.write(self.name(name))?;
+        if arguments.is_empty() {
+            return Ok(());
+        }
+        page.write(b"<")?;
+        page.lay_out(arguments, b">")
+    }
+
+    fn begin_array(
+        &self,
+        page: &mut Page<'a>,
+        length: usize,
+        arguments: &[usize],
+    ) -> Result<(), NoMemory> {
+        page.write(b"[")?;
+        page.later(Piece::Text(b"]"))?;
+        page.later(Piece::Text(self.name(length)))?;
+        page.lay_out(arguments, b"; ")
+    }
+
+    // The result comes first. It is left out where it is `()`.
+    fn begin_function(
+        &self,
+        page: &mut Page<'a>,
+        terms: &Terms,
+        arguments: &[usize],
+    ) -> Result<(), NoMemory> {
+        let Some((last, arguments)) = arguments.split_first() else {
+            return Ok(());
+        };
+        page.write(b"fn(")?;
+        if matches!(self.form_of(terms, *last), Some(Form::Tuple(_))) {
+            return page.lay_out(arguments, b")");
+        }
+        page.later(Piece::Marked(*last))?;
+        page.lay_out(arguments, b") -> ")
+    }
+
+    // The traits, in the order of their names.
+    fn write_dyn(&self, alloc: Global, page: &mut Page<'a>, set: usize) -> Result<(), NoMemory> {
+        let mut names = self.names_of(alloc, set)?;
+        names.sort_unstable();
+        let mut mark = b"dyn ".as_slice();
+        for name in names.iter() {
+            page.write(mark)?;
+            page.write(*name)?;
+            mark = b" + ";
         }
         Ok(())
     }
-}
 
-// The constructor of the type and its arguments, if there is such a type.
-fn spread_of(alloc: Global, terms: &Terms, number: usize) -> Result<Option<Spread>, NoMemory> {
-    let mut arguments = Vec::new(alloc);
-    let mut at = number;
-    for _ in 0..terms.len() {
-        match terms.get(at) {
-            Some(Made::Applied(applied, argument)) => {
-                arguments.push(argument)?;
-                at = applied;
-            }
-            Some(Made::Constructor(constructor)) => {
-                return Ok(Some(Spread {
-                    constructor,
-                    arguments,
-                }));
-            }
-            None => return Ok(None),
+    // The names of the traits of a set.
+    fn names_of(&self, alloc: Global, set: usize) -> Result<Vec<&'a [u8]>, NoMemory> {
+        let mut names = Vec::new(alloc);
+        let mut rest = Some(set);
+        for _ in 0..self.sets.len() {
+            let (others, number) = match self.sets.get(rest.unwrap_or(usize::MAX)) {
+                Some(Made::Applied(others, number)) => (Some(others), number),
+                Some(Made::Constructor(number)) => (None, number),
+                None => break,
+            };
+            names.push(self.trait_name(number).unwrap_or(b""))?;
+            rest = others;
         }
+        Ok(names)
     }
-    Ok(None)
-}
 
-// Types with commas between them. The arguments come from the last one on, as pieces do.
-fn lay_out_list<'b>(pieces: &mut Vec<Piece<'b>>, arguments: &[usize]) -> Result<(), NoMemory> {
-    for (place, argument) in arguments.iter().enumerate() {
-        if place > 0 {
-            pieces.push(Piece::Text(b", "))?;
+    // The form of the type and its arguments, if there is such a type.
+    fn spread_of(
+        &self,
+        alloc: Global,
+        terms: &Terms,
+        number: usize,
+    ) -> Result<Option<Spread>, NoMemory> {
+        let mut arguments = Vec::new(alloc);
+        let mut at = number;
+        for _ in 0..terms.len() {
+            let Some(Made::Applied(applied, argument)) = terms.get(at) else {
+                break;
+            };
+            arguments.push(argument)?;
+            at = applied;
         }
-        pieces.push(Piece::Type(*argument))?;
+        Ok(
+            self.form_of(terms, at)
+                .map(|form| Spread { form, arguments }),
+        )
     }
-    Ok(())
 }
 
-// The same between two texts.
-fn lay_out_between<'b>(
-    pieces: &mut Vec<Piece<'b>>,
-    before: &'b [u8],
-    arguments: &[usize],
-    behind: &'b [u8],
-) -> Result<(), NoMemory> {
-    pieces.push(Piece::Text(behind))?;
-    lay_out_list(pieces, arguments)?;
-    pieces.push(Piece::Text(before))?;
-    Ok(())
-}
-
-fn lay_out_path<'b>(
-    pieces: &mut Vec<Piece<'b>>,
-    name: &'b [u8],
-    arguments: &[usize],
-) -> Result<(), NoMemory> {
-    if !arguments.is_empty() {
-        lay_out_between(pieces, b"<", arguments, b">")?;
-    }
-    pieces.push(Piece::Text(name))?;
-    Ok(())
-}
-
-// A type behind a mark.
-fn lay_out_behind<'b>(
-    pieces: &mut Vec<Piece<'b>>,
-    mark: &'b [u8],
-    arguments: &[usize],
-) -> Result<(), NoMemory> {
-    for argument in arguments {
-        pieces.push(Piece::Marked(*argument))?;
-    }
-    pieces.push(Piece::Text(mark))?;
-    Ok(())
-}
-
-// The result comes first. It is left out where it is `()`.
-fn lay_out_function<'b>(
-    pieces: &mut Vec<Piece<'b>>,
-    arguments: &[usize],
-    is_unit: bool,
-) -> Result<(), NoMemory> {
-    let Some((last, arguments)) = arguments.split_first() else {
-        return Ok(());
+// Begins a type that is a mark or stands between two.
+fn begin_marks(page: &mut Page<'_>, form: Form, arguments: &[usize]) -> Result<(), NoMemory> {
+    let (before, behind) = match form {
+        Form::Reference => (b"&".as_slice(), b"".as_slice()),
+        Form::MutableReference => (b"&mut ".as_slice(), b"".as_slice()),
+        Form::ConstantPointer => (b"*const ".as_slice(), b"".as_slice()),
+        Form::MutablePointer => (b"*mut ".as_slice(), b"".as_slice()),
+        Form::Slice => (b"[".as_slice(), b"]".as_slice()),
+        Form::Tuple(1) => (b"(".as_slice(), b",)".as_slice()),
+        _ => (b"(".as_slice(), b")".as_slice()),
     };
-    if is_unit {
-        return lay_out_between(pieces, b"fn(", arguments, b")");
+    page.write(before)?;
+    match arguments {
+        [argument] if behind.is_empty() => page.later(Piece::Marked(*argument)),
+        _ => page.lay_out(arguments, behind),
     }
-    pieces.push(Piece::Marked(*last))?;
-    lay_out_between(pieces, b"fn(", arguments, b") -> ")
-}
-
-fn lay_out_dyn<'b>(pieces: &mut Vec<Piece<'b>>, names: &'b [&'b [u8]]) -> Result<(), NoMemory> {
-    for (place, name) in names.iter().rev().enumerate() {
-        if place > 0 {
-            pieces.push(Piece::Text(b" + "))?;
-        }
-        pieces.push(Piece::Text(name))?;
-    }
-    pieces.push(Piece::Text(b"dyn "))?;
-    Ok(())
 }

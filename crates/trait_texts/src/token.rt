@@ -1,163 +1,194 @@
 //! The words of a text.
 ghost use Rattle.std.specs.Prelude.{◌≤◌, IfSome, length};
 
-/// A word of a text: a name or a keyword, a number, a lifetime with its `'`, a text in quotes, `::`, `->`, or what else stands
-/// there, byte by byte. At the end of the text it is empty.
+use crate::names::{NEVER, Names};
+use crate::refusal::Stop;
+
+/// What a word is.
 #[derive(Clone, Copy)]
-pub(crate) struct Token<'a> {
-    pub(crate) text: &'a [u8],
+pub(crate) enum Kind {
+    /// A blank or a comment, which is no word.
+    Blank,
+    /// A letter or `_`, and more of these and digits, and no keyword.
+    Name,
+    /// `'a`
+    Lifetime,
+    Number,
+    /// A text in quotes.
+    Quoted,
+    /// `::`, `->`, a keyword, or what else stands there, byte by byte.
+    Mark,
+    /// `/*` of a comment without an end.
+    OpenComment,
+    /// The end of the text.
+    End,
+}
+
+/// A line of a file, which are counted from 1 and from 0.
+#[derive(Clone, Copy)]
+pub(crate) struct Place {
+    pub(crate) file: usize,
     pub(crate) line: usize,
 }
 
-/// Words that are no names.
-const KEYWORDS: [&[u8]; 53] = [
-    b"_",
-    b"abstract",
-    b"as",
-    b"async",
-    b"await",
-    b"become",
-    b"box",
-    b"break",
-    b"const",
-    b"continue",
-    b"crate",
-    b"do",
-    b"dyn",
-    b"else",
-    b"enum",
-    b"extern",
-    b"false",
-    b"final",
-    b"fn",
-    b"for",
-    b"gen",
-    b"if",
-    b"impl",
-    b"in",
-    b"let",
-    b"loop",
-    b"macro",
-    b"match",
-    b"mod",
-    b"move",
-    b"mut",
-    b"override",
-    b"priv",
-    b"pub",
-    b"ref",
-    b"return",
-    b"self",
-    b"Self",
-    b"static",
-    b"struct",
-    b"super",
-    b"trait",
-    b"true",
-    b"try",
-    b"type",
-    b"typeof",
-    b"unsafe",
-    b"unsized",
-    b"use",
-    b"virtual",
-    b"where",
-    b"while",
-    b"yield",
-];
+/// A word of a text.
+#[derive(Clone, Copy)]
+pub(crate) struct Token<'a> {
+    pub(crate) text: &'a [u8],
+    pub(crate) place: Place,
+    pub(crate) kind: Kind,
+    /// The number of a name, a keyword or the text of a number; of other words that of `!`.
+    pub(crate) name: usize,
+}
 
-impl<'a> Token<'a> {
-    /// A letter or `_`, and more of these and digits, and no keyword.
-    pub(crate) fn is_name(&self) -> bool {
-        let starts = self
-            .text
-            .first()
-            .is_some_and(|byte| byte.is_ascii_alphabetic() || *byte == b'_');
-        starts && !KEYWORDS.iter().any(|keyword| *keyword == self.text)
+// Bytes that stand together.
+#[derive(Clone, Copy)]
+enum Run {
+    Blank,
+    Name,
+    // Bytes of letters that are not ASCII's.
+    Foreign,
+    Line,
+    Quoted,
+}
+
+// How a text begins: how many bytes of it are of this kind.
+#[derive(Clone, Copy)]
+struct Piece {
+    kind: Kind,
+    length: usize,
+}
+
+/// Adds the words of the text of a file, and one for its end.
+pub(crate) fn add_words<'a>(
+    names: &mut Names<'a>,
+    tokens: &mut Vec<Token<'a>>,
+    file: usize,
+    text: &'a [u8],
+) -> Result<(), Stop> {
+    let mut rest = text;
+    let mut place = Place { file, line: 1 };
+    for _ in 0..text.len() {
+        let piece = first_piece(rest);
+        let Some((word, behind)) = rest.split_at_checked(piece.length) else {
+            break;
+        };
+        add_word(names, tokens, piece, word, place)?;
+        place.line = line_behind(word, place.line);
+        if behind.is_empty() || matches!(piece.kind, Kind::OpenComment) {
+            break;
+        }
+        rest = behind;
     }
+    add_word(
+        names,
+        tokens,
+        Piece {
+            kind: Kind::End,
+            length: 0,
+        },
+        b"",
+        place,
+    )
+}
 
-    pub(crate) fn is_number(&self) -> bool {
-        self.text.first().is_some_and(|byte| byte.is_ascii_digit())
+// Adds a word, if it is one. A name that is a keyword is a mark.
+fn add_word<'a>(
+    names: &mut Names<'a>,
+    tokens: &mut Vec<Token<'a>>,
+    piece: Piece,
+    text: &'a [u8],
+    place: Place,
+) -> Result<(), Stop> {
+    let mut kind = piece.kind;
+    let mut name = NEVER;
+    match kind {
+        Kind::Blank => return Ok(()),
+        Kind::Name | Kind::Number => name = names.number(text)?,
+        _ => {}
     }
-
-    /// `'a`
-    pub(crate) fn is_lifetime(&self) -> bool {
-        self.text.len() > 1 && self.text.first().is_some_and(|byte| *byte == b'\'')
+    if matches!(kind, Kind::Name) && Names::is_keyword(name) {
+        kind = Kind::Mark;
     }
+    tokens.push(Token {
+        text,
+        place,
+        kind,
+        name,
+    })?;
+    Ok(())
+}
 
-    /// The text within quotes.
-    pub(crate) fn quoted(&self) -> Option<&'a [u8]> {
-        match self.text {
-            [b'"', within @ .., b'"'] => Some(within),
-            _ => None,
+// The line that is reached behind a text which begins in this line.
+fn line_behind(text: &[u8], line: usize) -> usize {
+    let mut reached = line;
+    for byte in text {
+        if *byte == b'\n' {
+            reached = reached.saturating_add(1);
         }
     }
+    reached
 }
 
-/// How many bytes the first word has.
-pub(crate) fn word_length(rest: &[u8]) -> usize
-    ensures { result ≤ length rest.now }
-{
-    match rest {
-        [] => 0,
-        [b':', b':', ..] | [b'-', b'>', ..] => 2,
-        [b'\'', name @ ..] => 1 + name_length(name),
-        [b'"', within @ ..] => match within
-            .iter()
-            .position(|byte| *byte == b'"' || *byte == b'\n')
-        {
-            Some(place) if within[place] == b'"' => place + 2,
-            _ => 1,
+// What the text begins with.
+fn first_piece(rest: &[u8]) -> Piece {
+    let (kind, length) = match rest {
+        [] => (Kind::Blank, 0),
+        [b'/', b'/', ..] => (Kind::Blank, run_length(rest, Run::Line)),
+        [b'/', b'*', ..] => match comment_length(rest) {
+            Some(length) => (Kind::Blank, length),
+            None => (Kind::OpenComment, 2),
         },
-        [byte, ..] if is_name_byte(*byte) => name_length(rest),
-        [byte, ..] if *byte >= 128 => foreign_length(rest),
-        _ => 1,
-    }
+        [b':', b':', ..] | [b'-', b'>', ..] => (Kind::Mark, 2),
+        [b'\'', name @ ..] if begins_name(name) => {
+            (Kind::Lifetime, 1 + run_length(name, Run::Name))
+        }
+        [b'"', within @ ..] => quoted(within),
+        [byte, ..] if byte.is_ascii_digit() => (Kind::Number, run_length(rest, Run::Name)),
+        [byte, ..] if goes_on(Run::Name, *byte) => (Kind::Name, run_length(rest, Run::Name)),
+        [byte, ..] if goes_on(Run::Blank, *byte) => (Kind::Blank, run_length(rest, Run::Blank)),
+        [byte, ..] if *byte >= 128 => (Kind::Mark, run_length(rest, Run::Foreign)),
+        _ => (Kind::Mark, 1),
+    };
+    Piece { kind, length }
 }
 
-fn is_name_byte(byte: u8) -> bool {
-    byte.is_ascii_alphanumeric() || byte == b'_'
-}
-
-fn name_length(rest: &[u8]) -> usize
-    ensures { result ≤ length rest.now }
-{
-    rest.iter()
-        .position(|byte| !is_name_byte(*byte))
-        .unwrap_or(rest.len())
-}
-
-// Bytes of letters that are not ASCII's stand together.
-fn foreign_length(rest: &[u8]) -> usize
-    ensures { result ≤ length rest.now }
-{
-    rest.iter()
-        .position(|byte| *byte < 128)
-        .unwrap_or(rest.len())
-}
-
-/// How many bytes the blanks or the comment have with which the text begins, 0 if it begins with a word. None where the
-/// comment has no end.
-pub(crate) fn blank_length(rest: &[u8]) -> Option<usize>
-    ensures { IfSome result (λ count. count ≤ length rest.now) }
-{
+fn begins_name(rest: &[u8]) -> bool {
     match rest {
-        [b'/', b'/', ..] => Some(
-            rest.iter()
-                .position(|byte| *byte == b'\n')
-                .unwrap_or(rest.len()),
-        ),
-        [b'/', b'*', ..] => comment_length(rest),
-        _ => Some(
-            rest.iter()
-                .position(|byte| !is_blank(*byte))
-                .unwrap_or(rest.len()),
-        ),
+        [byte, ..] => goes_on(Run::Name, *byte) && !byte.is_ascii_digit(),
+        [] => false,
     }
 }
 
-fn is_blank(byte: u8) -> bool {
-    matches!(byte, b' ' | b'\n' | b'\t' | b'\r' | 11 | 12)
+// A text in quotes, by what stands behind the first one, which is a mark if no other one stands in this line.
+fn quoted(within: &[u8]) -> (Kind, usize) {
+    let length = run_length(within, Run::Quoted);
+    match within.get(length) {
+        Some(b'"') => (Kind::Quoted, length.saturating_add(2)),
+        _ => (Kind::Mark, 1),
+    }
+}
+
+fn goes_on(run: Run, byte: u8) -> bool {
+    match run {
+        Run::Blank => matches!(byte, b' ' | b'\n' | b'\t' | b'\r' | 11 | 12),
+        Run::Name => byte.is_ascii_alphanumeric() || byte == b'_',
+        Run::Foreign => byte >= 128,
+        Run::Line => byte != b'\n',
+        Run::Quoted => byte != b'"' && byte != b'\n',
+    }
+}
+
+// How many bytes of the run the text begins with.
+fn run_length(rest: &[u8], run: Run) -> usize
+    ensures { result ≤ length rest.now }
+{
+    for (place, byte) in rest.iter().enumerate() {
+        if !goes_on(run, *byte) {
+            return place;
+        }
+    }
+    rest.len()
 }
 
 // Comments may be nested.

@@ -1,0 +1,200 @@
+//! What the names of a text mean.
+
+use crate::names::PRIMITIVES;
+use crate::refusal::{Problem, Stop};
+use std::alloc::Global;
+
+/// A word, by the number of its name and by its place.
+#[derive(Clone, Copy)]
+pub(crate) struct Word {
+    pub(crate) name: usize,
+    pub(crate) place: usize,
+}
+
+/// What is known of a name.
+#[derive(Clone, Copy)]
+pub(crate) struct Meaning {
+    /// A type of this name takes so many arguments.
+    pub(crate) arguments: Option<usize>,
+    /// The number of the trait of this name.
+    pub(crate) bound: Option<usize>,
+    /// The number of the function of this name.
+    pub(crate) function: Option<usize>,
+    /// The shape of the item's parameter of this name.
+    pub(crate) parameter: Option<usize>,
+}
+
+const NOTHING: Meaning = Meaning {
+    arguments: None,
+    bound: None,
+    function: None,
+    parameter: None,
+};
+
+const BUILT_IN: Meaning = Meaning {
+    arguments: Some(0),
+    bound: None,
+    function: None,
+    parameter: None,
+};
+
+/// What is known of a trait.
+#[derive(Drop)]
+struct Heading {
+    // The first word that names it.
+    word: Word,
+    is_declared: bool,
+    // Its supertraits.
+    above: Vec<usize>,
+}
+
+// A word that names a type, and how many arguments that has there.
+#[derive(Clone, Copy)]
+struct Use {
+    word: Word,
+    arguments: usize,
+}
+
+/// What the names mean, and where they are used.
+#[derive(Drop)]
+pub(crate) struct Lexicon {
+    meanings: Vec<Meaning>,
+    traits: Vec<Heading>,
+    uses: Vec<Use>,
+}
+
+impl Lexicon {
+    /// So many names, of which those of primitive types mean these.
+    pub(crate) fn new(alloc: Global, count: usize) -> Result<Lexicon, Stop> {
+        let mut lexicon = Lexicon {
+            meanings: vec![in alloc; NOTHING; count]?,
+            traits: Vec::new(alloc),
+            uses: Vec::new(alloc),
+        };
+        for name in 0..PRIMITIVES.len() {
+            lexicon.set(name, BUILT_IN);
+        }
+        Ok(lexicon)
+    }
+
+    /// What the name means.
+    pub(crate) fn meaning(&self, name: usize) -> Meaning {
+        self.meanings.get(name).copied().unwrap_or(NOTHING)
+    }
+
+    /// The name means this from now on.
+    pub(crate) fn set(&mut self, name: usize, meaning: Meaning) {
+        if let Some(known) = self.meanings.get_mut(name) {
+            *known = meaning;
+        }
+    }
+
+    /// The name means this parameter, or none.
+    pub(crate) fn set_parameter(&mut self, name: usize, parameter: Option<usize>) {
+        let mut meaning = self.meaning(name);
+        meaning.parameter = parameter;
+        self.set(name, meaning);
+    }
+
+    /// The word declares a type with so many parameters.
+    pub(crate) fn declare_type(&mut self, word: Word, arguments: usize) -> Result<(), Stop> {
+        let mut meaning = self.meaning(word.name);
+        if meaning.arguments.is_some() {
+            return Err(Stop::Refused(word.place, Problem::Twice));
+        }
+        meaning.arguments = Some(arguments);
+        self.set(word.name, meaning);
+        Ok(())
+    }
+
+    /// The word declares the function of this number.
+    pub(crate) fn declare_function(&mut self, word: Word, function: usize) -> Result<(), Stop> {
+        let mut meaning = self.meaning(word.name);
+        if meaning.function.is_some() {
+            return Err(Stop::Refused(word.place, Problem::Twice));
+        }
+        meaning.function = Some(function);
+        self.set(word.name, meaning);
+        Ok(())
+    }
+
+    /// The word declares the trait of this number.
+    pub(crate) fn declare_trait(&mut self, word: Word, number: usize) -> Result<(), Stop> {
+        match self.traits.get_mut(number) {
+            Some(heading) if !heading.is_declared => heading.is_declared = true,
+            _ => return Err(Stop::Refused(word.place, Problem::Twice)),
+        }
+        Ok(())
+    }
+
+    /// The number of the trait that the word names, which is the next one where it is named for the first time.
+    pub(crate) fn trait_number(&mut self, alloc: Global, word: Word) -> Result<usize, Stop> {
+        let mut meaning = self.meaning(word.name);
+        if let Some(number) = meaning.bound {
+            return Ok(number);
+        }
+        let number = self.traits.len();
+        self.traits.push(Heading {
+            word,
+            is_declared: false,
+            above: Vec::new(alloc),
+        })?;
+        meaning.bound = Some(number);
+        self.set(word.name, meaning);
+        Ok(number)
+    }
+
+    /// How many traits there are.
+    pub(crate) fn trait_count(&self) -> usize {
+        self.traits.len()
+    }
+
+    /// The trait has these supertraits.
+    pub(crate) fn set_above(&mut self, number: usize, above: Vec<usize>) {
+        if let Some(heading) = self.traits.get_mut(number) {
+            heading.above = above;
+        }
+    }
+
+    /// The supertraits of the trait.
+    pub(crate) fn above(&self, number: usize) -> &[usize] {
+        match self.traits.get(number) {
+            Some(heading) => heading.above.as_slice(),
+            None => &[],
+        }
+    }
+
+    /// The word names a type that has so many arguments there.
+    pub(crate) fn note_use(&mut self, word: Word, arguments: usize) -> Result<(), Stop> {
+        self.uses.push(Use { word, arguments })?;
+        Ok(())
+    }
+
+    /// Whether all that was named is declared, and types have as many arguments as parameters.
+    pub(crate) fn check(&self) -> Result<(), Stop> {
+        for used in self.uses.iter() {
+            match self.meaning(used.word.name).arguments {
+                Some(count) if count == used.arguments => {}
+                Some(count) => {
+                    return Err(Stop::Refused(used.word.place, Problem::Arguments(count)));
+                }
+                None => return Err(Stop::Refused(used.word.place, Problem::UnknownType)),
+            }
+        }
+        for heading in self.traits.iter() {
+            if !heading.is_declared {
+                return Err(Stop::Refused(heading.word.place, Problem::UnknownTrait));
+            }
+        }
+        Ok(())
+    }
+
+    /// The names of the traits.
+    pub(crate) fn trait_names(&self, alloc: Global) -> Result<Vec<usize>, Stop> {
+        let mut names = Vec::new(alloc);
+        for heading in self.traits.iter() {
+            names.push(heading.word.name)?;
+        }
+        Ok(names)
+    }
+}

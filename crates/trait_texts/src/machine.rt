@@ -1,0 +1,171 @@
+//! The machine that reads a text by the steps of its parts.
+
+use crate::grammar::rows_of;
+use crate::lexicon::Word;
+use crate::reader::Reader;
+use crate::refusal::{Problem, Stop};
+use crate::step::{Part, Step};
+use crate::token::{Kind, Place, Token};
+use std::alloc::Global;
+
+/// What goals a question may nest if no text says so.
+const DEPTH: usize = 128;
+
+/// The most digits that a limit has.
+const DIGITS: usize = 9;
+
+// It stands behind the last word.
+const NO_TOKEN: Token<'static> = Token {
+    text: b"",
+    place: Place { file: 0, line: 0 },
+    kind: Kind::End,
+    name: 0,
+};
+
+/// A place among words, and the steps to take from there.
+#[derive(Drop)]
+pub(crate) struct Machine<'a> {
+    tokens: &'a [Token<'a>],
+    at: usize,
+    steps: &'static [Step],
+    // The steps behind these, the last ones first.
+    later: Vec<&'static [Step]>,
+    /// The last limit on nested goals that was read.
+    pub(crate) depth: usize,
+}
+
+impl<'a> Machine<'a> {
+    /// The place before the first word.
+    pub(crate) fn new(alloc: Global, tokens: &'a [Token<'a>]) -> Machine<'a> {
+        Machine {
+            tokens,
+            at: 0,
+            steps: &[],
+            later: Vec::new(alloc),
+            depth: DEPTH,
+        }
+    }
+
+    /// Reads a text to its end.
+    pub(crate) fn read_text(&mut self, reader: &mut Reader) -> Result<(), Stop> {
+        self.choose(Part::Items)?;
+        for _ in 0..u64::MAX {
+            match self.next_step() {
+                Some(step) => self.take(reader, step)?,
+                None => return Ok(()),
+            }
+        }
+        Err(Stop::Memory)
+    }
+
+    // The step to take, which is left out then.
+    fn next_step(&mut self) -> Option<Step> {
+        for _ in 0..u64::MAX {
+            if let Some((step, steps)) = self.steps.split_first() {
+                self.steps = steps;
+                return Some(*step);
+            }
+            self.steps = self.later.pop()?;
+        }
+        None
+    }
+
+    fn take(&mut self, reader: &mut Reader, step: Step) -> Result<(), Stop> {
+        match step {
+            Step::Pass => self.pass(),
+            Step::Word(word) => return self.expect(word),
+            Step::Name if matches!(self.token().kind, Kind::Name) => self.pass(),
+            Step::Name => return Err(self.refused(Problem::NoName)),
+            Step::Number if matches!(self.token().kind, Kind::Number) => self.pass(),
+            Step::Number => return Err(self.refused(Problem::NoNumber)),
+            Step::Limit => return self.read_limit(),
+            Step::Go(part) => return self.choose(part),
+            Step::Make(making) => return reader.make(making, self.last_word()),
+            Step::Do(doing) => return reader.act(doing, self.last_word()),
+            Step::Refuse(problem) => return Err(self.refused(problem)),
+        }
+        Ok(())
+    }
+
+    // The word that stands here.
+    fn token(&self) -> Token<'a> {
+        match self.tokens.get(self.at) {
+            Some(token) => *token,
+            None => NO_TOKEN,
+        }
+    }
+
+    // The word that was passed last.
+    fn last_word(&self) -> Word {
+        let place = self.at.saturating_sub(1);
+        let name = match self.tokens.get(place) {
+            Some(token) => token.name,
+            None => 0,
+        };
+        Word { name, place }
+    }
+
+    fn pass(&mut self) {
+        self.at = self.at.saturating_add(1);
+    }
+
+    // What is wrong with the word.
+    fn refused(&self, problem: Problem) -> Stop {
+        match self.token().kind {
+            Kind::OpenComment => Stop::Refused(self.at, Problem::OpenComment),
+            _ => Stop::Refused(self.at, problem),
+        }
+    }
+
+    fn expect(&mut self, word: &'static str) -> Result<(), Stop> {
+        if self.token().text != word.as_bytes() {
+            return Err(self.refused(Problem::Expected(word)));
+        }
+        self.pass();
+        Ok(())
+    }
+
+    // Takes the steps of the part first.
+    fn choose(&mut self, part: Part) -> Result<(), Stop> {
+        let token = self.token();
+        for (when, steps) in rows_of(part) {
+            if when.fits(token) {
+                if !self.steps.is_empty() {
+                    self.later.push(self.steps)?;
+                }
+                self.steps = *steps;
+                return Ok(());
+            }
+        }
+        Err(self.refused(Problem::NoItem))
+    }
+
+    fn read_limit(&mut self) -> Result<(), Stop> {
+        let Some(depth) = limit_of(self.token().text) else {
+            return Err(self.refused(Problem::Limit));
+        };
+        self.depth = depth;
+        self.pass();
+        Ok(())
+    }
+}
+
+// The number that the digits in quotes say, of which there may be nine.
+fn limit_of(quoted: &[u8]) -> Option<usize> {
+    let [b'"', digits @ .., b'"'] = quoted else {
+        return None;
+    };
+    if digits.is_empty() || digits.len() > DIGITS {
+        return None;
+    }
+    let mut number = 0usize;
+    for digit in digits {
+        if !digit.is_ascii_digit() {
+            return None;
+        }
+        number = number
+            .checked_mul(10)?
+            .checked_add((*digit - b'0') as usize)?;
+    }
+    Some(number)
+}

@@ -1,0 +1,121 @@
+//! Names and their numbers.
+
+use search_context::context::NoMemory;
+use std::alloc::Global;
+use std::collections::HashMap;
+
+/// The types that are built in and have a name.
+pub(crate) const PRIMITIVES: &[&[u8]] = &[
+    b"!", b"bool", b"char", b"str", b"i8", b"i16", b"i32", b"i64", b"i128", b"isize", b"u8",
+    b"u16", b"u32", b"u64", b"u128", b"usize", b"f32", b"f64",
+];
+
+/// The number of `!`, the first primitive type.
+pub(crate) const NEVER: usize = 0;
+
+/// Words that are no names.
+const KEYWORDS: &[&[u8]] = &[
+    b"_",
+    b"abstract",
+    b"as",
+    b"async",
+    b"await",
+    b"become",
+    b"box",
+    b"break",
+    b"const",
+    b"continue",
+    b"crate",
+    b"do",
+    b"dyn",
+    b"else",
+    b"enum",
+    b"extern",
+    b"false",
+    b"final",
+    b"fn",
+    b"for",
+    b"gen",
+    b"if",
+    b"impl",
+    b"in",
+    b"let",
+    b"loop",
+    b"macro",
+    b"match",
+    b"mod",
+    b"move",
+    b"mut",
+    b"override",
+    b"priv",
+    b"pub",
+    b"ref",
+    b"return",
+    b"self",
+    b"Self",
+    b"static",
+    b"struct",
+    b"super",
+    b"trait",
+    b"true",
+    b"try",
+    b"type",
+    b"typeof",
+    b"unsafe",
+    b"unsized",
+    b"use",
+    b"virtual",
+    b"where",
+    b"while",
+    b"yield",
+];
+
+/// Names, each with a number: those of the primitive types come first, and then keywords.
+#[derive(Drop)]
+pub(crate) struct Names<'a> {
+    texts: Vec<&'a [u8]>,
+    numbers: HashMap<&'a [u8], usize>,
+}
+
+impl<'a> Names<'a> {
+    /// The names of primitive types, and keywords.
+    pub(crate) fn new(alloc: Global) -> Result<Names<'a>, NoMemory> {
+        let mut names = Names {
+            texts: Vec::new(alloc),
+            numbers: HashMap::new(alloc),
+        };
+        names.enter(PRIMITIVES)?;
+        names.enter(KEYWORDS)?;
+        Ok(names)
+    }
+
+    fn enter(&mut self, words: &'static [&'static [u8]]) -> Result<(), NoMemory> {
+        for word in words {
+            self.number(*word)?;
+        }
+        Ok(())
+    }
+
+    /// The number of a name.
+    pub(crate) fn number(&mut self, name: &'a [u8]) -> Result<usize, NoMemory> {
+        if let Some(number) = self.numbers.get(name) {
+            return Ok(*number);
+        }
+        let number = self.texts.len();
+        self.texts.push(name)?;
+        self.numbers.insert(name, number)?;
+        Ok(number)
+    }
+
+    /// Whether the name of this number is a keyword.
+    pub(crate) fn is_keyword(number: usize) -> bool {
+        number >= PRIMITIVES.len() && number < PRIMITIVES.len() + KEYWORDS.len()
+    }
+
+    /// The texts of all names, by their numbers.
+    pub(crate) fn into_texts(self) -> Vec<&'a [u8]> {
+        let Names { texts, numbers } = self;
+        drop(numbers);
+        texts
+    }
+}

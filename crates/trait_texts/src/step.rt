@@ -1,0 +1,185 @@
+//! The steps by which a text is read.
+
+use crate::refusal::Problem;
+use crate::spelling::Form;
+use crate::token::{Kind, Token};
+
+/// A part of a text. Of a list it is what may follow, and so is a part whose name ends in `Next`.
+#[derive(Clone, Copy)]
+pub(crate) enum Part {
+    Items,
+    Question,
+    Asking,
+    AfterAuto,
+    AfterFn,
+    Public,
+    PublicItem,
+    Unsafe,
+    Item,
+    Attribute,
+    OuterAttribute,
+    InnerAttribute,
+    Marked,
+    MarkedPublic,
+    MarkedItem,
+    MarkedTrait,
+    MarkedAttribute,
+    MarkedOuterAttribute,
+    Lints,
+    LintsNext,
+    AutoTrait,
+    Traits,
+    Above,
+    Impl,
+    Polarity,
+    StructFields,
+    StructBody,
+    TupleFields,
+    TupleFieldsNext,
+    TupleField,
+    PublicField,
+    PublicParenthesis,
+    Fields,
+    FieldVisibility,
+    FieldsNext,
+    Variants,
+    VariantFields,
+    VariantsNext,
+    Function,
+    Body,
+    CallArguments,
+    Parameters,
+    ParameterList,
+    ParametersNext,
+    ParameterBounds,
+    LifetimeBounds,
+    Outlives,
+    OutlivesNext,
+    Where,
+    WhereList,
+    WhereNext,
+    Bounds,
+    BoundsNext,
+    Named,
+    NamedNext,
+    OneNamed,
+    Asked,
+    AskedNext,
+    Type,
+    NarrowType,
+    PlainType,
+    Parentheses,
+    ParenthesesNext,
+    Tuple,
+    TupleNext,
+    Brackets,
+    Reference,
+    Referent,
+    Pointer,
+    FunctionType,
+    FunctionParts,
+    FunctionNext,
+    FunctionResult,
+    Path,
+    Arguments,
+    ArgumentList,
+    ArgumentsNext,
+}
+
+/// What is made of the words of a type or of bounds. The word that is meant is the one that was passed last.
+#[derive(Clone, Copy)]
+pub(crate) enum Making {
+    /// A type begins: one of the word's name, or of another form.
+    Begin,
+    EndPath,
+    EndParentheses,
+    EndTuple,
+    EndFunction,
+    End(Form),
+    /// An array's type ends, whose length is the word.
+    EndArray,
+    /// `Self`
+    Own,
+    /// A `dyn` type of the traits that were named.
+    Dyn,
+    /// The word names a trait.
+    Bound,
+}
+
+/// What is done with what was read. The word that is meant is the one that was passed last.
+#[derive(Clone, Copy)]
+pub(crate) enum Doing {
+    /// An item or a question begins.
+    BeginItem,
+    /// An item begins whose bounds say nothing.
+    BeginType,
+    /// The word is the item's name.
+    NameItem,
+    EndType,
+    /// The word is the name of a trait: whether that is an auto trait, and whether it is coinductive.
+    Trait(bool, bool),
+    /// The bounds are those of the trait.
+    SetAbove,
+    /// The impl is a negative one.
+    Negate,
+    /// The word names the trait of the impl.
+    SetTrait,
+    /// The last type is that which the impl is for.
+    SetHead,
+    EndImpl,
+    /// The word is the name of a parameter.
+    Parameter,
+    /// The bounds that follow are those of the last type.
+    Subject,
+    EndBounds,
+    Field,
+    EndSignature,
+    Ask,
+    /// The word names the function that is called.
+    BeginCall,
+    EndCall,
+}
+
+/// A step.
+#[derive(Clone, Copy)]
+pub(crate) enum Step {
+    /// The word is passed, whatever it is.
+    Pass,
+    /// This word has to stand here, and is passed.
+    Word(&'static str),
+    /// A name has to stand here, and is passed.
+    Name,
+    Number,
+    /// A number in quotes has to stand here, which is the limit on depth.
+    Limit,
+    Go(Part),
+    Make(Making),
+    Do(Doing),
+    Refuse(Problem),
+}
+
+/// Where a part may be what a row says.
+#[derive(Clone, Copy)]
+pub(crate) enum When {
+    At(&'static str),
+    AtName,
+    AtLifetime,
+    AtEnd,
+    Else,
+}
+
+impl When {
+    /// Whether this word is one before which the part may be that.
+    pub(crate) fn fits(self, token: Token<'_>) -> bool {
+        match self {
+            When::At(word) => token.text == word.as_bytes(),
+            When::AtName => matches!(token.kind, Kind::Name),
+            When::AtLifetime => matches!(token.kind, Kind::Lifetime),
+            When::AtEnd => matches!(token.kind, Kind::End),
+            When::Else => true,
+        }
+    }
+}
+
+/// What a part may be: before which word, and the steps by which it is read. The first row that fits counts.
+pub(crate) type Row = (When, &'static [Step]);
