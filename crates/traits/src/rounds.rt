@@ -3,7 +3,7 @@ ghost use Rattle.std.specs.Prelude.{◌≡◌, IfOk};
 ghost use Rattle.trait_answers.specs.Asking.{known_by};
 ghost use Rattle.traits.specs.Right.{AreRight, IsRight};
 
-use crate::scout::scout;
+use crate::scout::make_known;
 use search_context::context::{Fault, NoMemory};
 use std::alloc::Global;
 use trait_answers::{Answers, Outcome};
@@ -80,13 +80,13 @@ pub(crate) fn ask_in_rounds(
 ) -> Result<Vec<Came>, NoMemory>
     ensures { IfOk result (λ came. AreRight goals.old asked.now came.items) }
 {
-    scout(alloc, goals, asked, depth, MOST)?;
+    make_known(alloc, goals, asked, depth, MOST)?;
     let mut round = ask_all::<&Goals>(alloc, &*goals, goals.len(), asked, depth)?;
     for _ in 0..ROUNDS {
         if round.wanted.is_empty() {
             break;
         }
-        scout(alloc, goals, round.wanted.as_slice(), depth, MOST)?;
+        make_known(alloc, goals, round.wanted.as_slice(), depth, MOST)?;
         round = ask_all::<&Goals>(alloc, &*goals, goals.len(), asked, depth)?;
     }
     Ok(round.came)

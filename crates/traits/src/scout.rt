@@ -50,7 +50,7 @@ struct Scout {
 }
 
 /// Makes goals known that a search comes to from these at this depth, so many at most.
-pub(crate) fn scout(
+pub(crate) fn make_known(
     alloc: Global,
     goals: &mut Goals,
     asked: &[usize],

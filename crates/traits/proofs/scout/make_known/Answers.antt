@@ -1,5 +1,5 @@
 use Rattle.traits.proofs.Kept.{extends_same, extends_then}
-use Rattle.traits.proofs.scout.scout.Goals as goal
+use Rattle.traits.proofs.scout.make_known.Goals as goal
 
 pub loop-init : goal.loop-init
 loop-init c = extends_same c.args.goals.now
@@ -8,6 +8,6 @@ pub loop-preserved : goal.loop-preserved
 loop-preserved c =
     extends_then c.args.goals.now c.loop.goals c.expand.new.self c.loop.invariant c.expand.ensures
 
-pub returns-in_err-expand : goal.returns-in_err-expand
-returns-in_err-expand c =
+pub returns-in_err-expand-in-Some : goal.returns-in_err-expand-in-Some
+returns-in_err-expand-in-Some c =
     extends_then c.args.goals.now c.loop.goals c.expand.new.self c.loop.invariant c.expand.ensures
