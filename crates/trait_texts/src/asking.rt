@@ -4,7 +4,7 @@ use crate::declarations::Question;
 use crate::draft::Draft;
 use crate::lexicon::{Lexicon, Word};
 use crate::program::Program;
-use crate::refusal::{Problem, Stop};
+use crate::refusal::{Problem, Stop, push};
 use std::alloc::Global;
 
 /// A function: how many types it takes, and what a call of it asks.
@@ -40,26 +40,25 @@ impl Asking {
     /// One more function, whose number is returned.
     pub(crate) fn add_function(&mut self, arguments: usize, draft: Draft) -> Result<usize, Stop> {
         let number = self.functions.len();
-        self.functions.push(Function { arguments, draft })?;
+        push(&mut self.functions, Function { arguments, draft })?;
         Ok(number)
     }
 
-    /// Asks all bounds of these types.
-    pub(crate) fn ask(&mut self, types: &[usize], bounds: &[usize]) -> Result<(), Stop> {
-        for subject in types {
-            for bound in bounds {
-                self.pending.push(Pending::Question(Question {
-                    subject: *subject,
-                    bound: *bound,
-                }))?;
-            }
+    /// Asks all bounds of a type.
+    pub(crate) fn ask(&mut self, subject: usize, bounds: &[usize]) -> Result<(), Stop> {
+        for bound in bounds {
+            let question = Question {
+                subject,
+                bound: *bound,
+            };
+            push(&mut self.pending, Pending::Question(question))?;
         }
         Ok(())
     }
 
     /// The function that the word names is called with these types.
     pub(crate) fn call(&mut self, word: Word, arguments: Vec<usize>) -> Result<(), Stop> {
-        self.pending.push(Pending::Call(word, arguments))?;
+        push(&mut self.pending, Pending::Call(word, arguments))?;
         Ok(())
     }
 

@@ -2,6 +2,7 @@
 ghost use Rattle.std.specs.Prelude.{IfOk, length};
 ghost use Rattle.trait_texts.specs.WellFormed.{AreAsked, AreSound};
 
+use crate::forms::Forms;
 use crate::machine::Machine;
 use crate::names::Names;
 use crate::reader::Reader;
@@ -37,6 +38,13 @@ pub struct Declarations<'a> {
     pub depth: usize,
     /// How types and traits are written.
     pub spelling: Spelling<'a>,
+}
+
+// What the texts say beside rules and questions: the limit on depth, and the names of traits.
+#[derive(Drop)]
+struct Heard {
+    depth: usize,
+    traits: Vec<usize>,
 }
 
 /// Reads texts one after another, as one program. With `as_rustc` a trait that is not coinductive asks by steps of unknown
@@ -76,26 +84,33 @@ fn read_words<'a>(
 {
     let names = split_texts(alloc, sources, tokens)?;
     let mut reader = Reader::new(alloc, names.len(), as_rustc)?;
-    let depth = read_texts(alloc, &mut reader, tokens.as_slice(), sources.len())?;
-    let Reader {
-        lexicon,
-        forms,
-        program,
-        ..
-    } = reader;
+    match read_texts(alloc, &mut reader, tokens.as_slice(), sources.len()) {
+        Ok(heard) => Ok(told_of(reader, names, heard)),
+        Err(stop) => Err(stop),
+    }
+}
+
+// What was read.
+fn told_of<'a>(reader: Reader, names: Vec<&'a [u8]>, heard: Heard) -> Declarations<'a>
+    ensures rules { AreSound result.rules }
+    ensures questions { AreAsked (length result.rules.traits.items) (length result.terms) result.questions.items }
+{
+    let Reader { forms, program, .. } = reader;
+    let Forms { forms, sets, .. } = forms;
+    let Heard { depth, traits } = heard;
     let (rules, terms, questions) = program.into_parts();
-    Ok(Declarations {
+    Declarations {
         rules,
         terms,
         questions,
         depth,
         spelling: Spelling {
             names,
-            forms: forms.forms,
-            sets: forms.sets,
-            traits: lexicon.trait_names(alloc)?,
+            forms,
+            sets,
+            traits,
         },
-    })
+    }
 }
 
 // Adds the words of the texts, and returns their names.
@@ -113,19 +128,22 @@ fn split_texts<'a>(
     Ok(names.into_texts())
 }
 
-// Reads the words of so many texts, and returns the limit on depth.
+// Reads the words of so many texts.
 fn read_texts(
     alloc: Global,
     reader: &mut Reader,
     tokens: &[Token<'_>],
     count: usize,
-) -> Result<usize, Stop> {
+) -> Result<Heard, Stop> {
     let mut machine = Machine::new(alloc, tokens);
     for _ in 0..count {
         machine.read_text(reader)?;
     }
     reader.finish()?;
-    Ok(machine.depth)
+    Ok(Heard {
+        depth: machine.depth,
+        traits: reader.lexicon.trait_names(alloc)?,
+    })
 }
 
 // What is wrong with the word at this place.

@@ -3,7 +3,7 @@
 use crate::draft::Draft;
 use crate::names::PRIMITIVES;
 use crate::program::Program;
-use crate::refusal::Stop;
+use crate::refusal::{Stop, push};
 use crate::spelling::Form;
 use std::alloc::Global;
 use trait_rules::{Bound, Made, Numbered};
@@ -68,10 +68,11 @@ impl Forms {
         let count = self.forms.len();
         let constructor = self.constructor(alloc, program, Form::Dyn(set))?;
         if constructor == count {
-            self.objects.push(Object {
+            let object = Object {
                 constructor,
                 traits,
-            })?;
+            };
+            push(&mut self.objects, object)?;
         }
         Ok(constructor)
     }

@@ -500,6 +500,13 @@ pub(crate) fn rows_of(part: Part) -> &'static [Row] {
         Part::LintsNext => LINTS_NEXT,
         Part::AutoTrait => AUTO_TRAIT,
         Part::Traits => TRAITS,
+        other => item_rows(other),
+    }
+}
+
+// The same of parts of items.
+fn item_rows(part: Part) -> &'static [Row] {
+    match part {
         Part::Above => ABOVE,
         Part::Impl => IMPL,
         Part::Polarity => POLARITY,
@@ -516,6 +523,13 @@ pub(crate) fn rows_of(part: Part) -> &'static [Row] {
         Part::Variants => VARIANTS,
         Part::VariantFields => VARIANT_FIELDS,
         Part::VariantsNext => VARIANTS_NEXT,
+        other => function_rows(other),
+    }
+}
+
+// The same of parts of functions, and of lists of parameters.
+fn function_rows(part: Part) -> &'static [Row] {
+    match part {
         Part::Function => FUNCTION,
         Part::Body => BODY,
         Part::CallArguments => CALL_ARGUMENTS,
@@ -529,6 +543,13 @@ pub(crate) fn rows_of(part: Part) -> &'static [Row] {
         Part::Where => WHERE,
         Part::WhereList => WHERE_LIST,
         Part::WhereNext => WHERE_NEXT,
+        other => type_rows(other),
+    }
+}
+
+// The same of bounds and types.
+fn type_rows(part: Part) -> &'static [Row] {
+    match part {
         Part::Bounds => BOUNDS,
         Part::BoundsNext => BOUNDS_NEXT,
         Part::Named => NAMED,
@@ -555,5 +576,6 @@ pub(crate) fn rows_of(part: Part) -> &'static [Row] {
         Part::Arguments => ARGUMENTS,
         Part::ArgumentList => ARGUMENT_LIST,
         Part::ArgumentsNext => ARGUMENTS_NEXT,
+        _ => &[],
     }
 }

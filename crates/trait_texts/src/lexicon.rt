@@ -1,7 +1,7 @@
 //! What the names of a text mean.
 
 use crate::names::PRIMITIVES;
-use crate::refusal::{Problem, Stop};
+use crate::refusal::{Problem, Stop, push};
 use std::alloc::Global;
 
 /// A word, by the number of its name and by its place.
@@ -134,11 +134,12 @@ impl Lexicon {
             return Ok(number);
         }
         let number = self.traits.len();
-        self.traits.push(Heading {
+        let heading = Heading {
             word,
             is_declared: false,
             above: Vec::new(alloc),
-        })?;
+        };
+        push(&mut self.traits, heading)?;
         meaning.bound = Some(number);
         self.set(word.name, meaning);
         Ok(number)
@@ -166,7 +167,7 @@ impl Lexicon {
 
     /// The word names a type that has so many arguments there.
     pub(crate) fn note_use(&mut self, word: Word, arguments: usize) -> Result<(), Stop> {
-        self.uses.push(Use { word, arguments })?;
+        push(&mut self.uses, Use { word, arguments })?;
         Ok(())
     }
 
@@ -193,7 +194,7 @@ impl Lexicon {
     pub(crate) fn trait_names(&self, alloc: Global) -> Result<Vec<usize>, Stop> {
         let mut names = Vec::new(alloc);
         for heading in self.traits.iter() {
-            names.push(heading.word.name)?;
+            push(&mut names, heading.word.name)?;
         }
         Ok(names)
     }

@@ -3,7 +3,7 @@
 use crate::grammar::rows_of;
 use crate::lexicon::Word;
 use crate::reader::Reader;
-use crate::refusal::{Problem, Stop};
+use crate::refusal::{Problem, Stop, push};
 use crate::step::{Part, Step};
 use crate::token::{Kind, Place, Token};
 use std::alloc::Global;
@@ -71,19 +71,28 @@ impl<'a> Machine<'a> {
     }
 
     fn take(&mut self, reader: &mut Reader, step: Step) -> Result<(), Stop> {
+        let token = self.token();
         match step {
-            Step::Pass => self.pass(),
-            Step::Word(word) => return self.expect(word),
-            Step::Name if matches!(self.token().kind, Kind::Name) => self.pass(),
-            Step::Name => return Err(self.refused(Problem::NoName)),
-            Step::Number if matches!(self.token().kind, Kind::Number) => self.pass(),
-            Step::Number => return Err(self.refused(Problem::NoNumber)),
-            Step::Limit => return self.read_limit(),
-            Step::Go(part) => return self.choose(part),
-            Step::Make(making) => return reader.make(making, self.last_word()),
-            Step::Do(doing) => return reader.act(doing, self.last_word()),
-            Step::Refuse(problem) => return Err(self.refused(problem)),
+            Step::Pass => self.pass_if(true, Problem::NoItem),
+            Step::Word(word) => {
+                self.pass_if(token.text == word.as_bytes(), Problem::Expected(word))
+            }
+            Step::Name => self.pass_if(matches!(token.kind, Kind::Name), Problem::NoName),
+            Step::Number => self.pass_if(matches!(token.kind, Kind::Number), Problem::NoNumber),
+            Step::Limit => self.read_limit(token.text),
+            Step::Go(part) => self.choose(part),
+            Step::Make(making) => reader.make(making, self.last_word()),
+            Step::Do(doing) => reader.act(doing, self.last_word()),
+            Step::Refuse(problem) => self.pass_if(false, problem),
         }
+    }
+
+    // Passes the word, if it is as it has to be.
+    fn pass_if(&mut self, is_right: bool, problem: Problem) -> Result<(), Stop> {
+        if !is_right {
+            return Err(self.refused(problem));
+        }
+        self.at = self.at.saturating_add(1);
         Ok(())
     }
 
@@ -105,10 +114,6 @@ impl<'a> Machine<'a> {
         Word { name, place }
     }
 
-    fn pass(&mut self) {
-        self.at = self.at.saturating_add(1);
-    }
-
     // What is wrong with the word.
     fn refused(&self, problem: Problem) -> Stop {
         match self.token().kind {
@@ -117,21 +122,13 @@ impl<'a> Machine<'a> {
         }
     }
 
-    fn expect(&mut self, word: &'static str) -> Result<(), Stop> {
-        if self.token().text != word.as_bytes() {
-            return Err(self.refused(Problem::Expected(word)));
-        }
-        self.pass();
-        Ok(())
-    }
-
     // Takes the steps of the part first.
     fn choose(&mut self, part: Part) -> Result<(), Stop> {
         let token = self.token();
         for (when, steps) in rows_of(part) {
             if when.fits(token) {
                 if !self.steps.is_empty() {
-                    self.later.push(self.steps)?;
+                    push(&mut self.later, self.steps)?;
                 }
                 self.steps = *steps;
                 return Ok(());
@@ -140,13 +137,10 @@ impl<'a> Machine<'a> {
         Err(self.refused(Problem::NoItem))
     }
 
-    fn read_limit(&mut self) -> Result<(), Stop> {
-        let Some(depth) = limit_of(self.token().text) else {
-            return Err(self.refused(Problem::Limit));
-        };
-        self.depth = depth;
-        self.pass();
-        Ok(())
+    fn read_limit(&mut self, quoted: &[u8]) -> Result<(), Stop> {
+        let limit = limit_of(quoted);
+        self.depth = limit.unwrap_or(DEPTH);
+        self.pass_if(limit.is_some(), Problem::Limit)
     }
 }
 

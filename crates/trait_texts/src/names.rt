@@ -1,5 +1,6 @@
 //! Names and their numbers.
 
+use crate::refusal::push;
 use search_context::context::NoMemory;
 use std::alloc::Global;
 use std::collections::HashMap;
@@ -102,7 +103,7 @@ impl<'a> Names<'a> {
             return Ok(*number);
         }
         let number = self.texts.len();
-        self.texts.push(name)?;
+        push(&mut self.texts, name)?;
         self.numbers.insert(name, number)?;
         Ok(number)
     }

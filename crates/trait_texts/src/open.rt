@@ -1,7 +1,7 @@
 //! Types that have begun.
 
 use crate::lexicon::Word;
-use crate::refusal::Stop;
+use crate::refusal::{Stop, push};
 use std::alloc::Global;
 use std::mem;
 
@@ -33,7 +33,7 @@ impl Open {
     /// A type begins behind this word.
     pub(crate) fn begin(&mut self, word: Word) -> Result<(), Stop> {
         let first = self.parts.len();
-        self.starts.push(Start { word, first })?;
+        push(&mut self.starts, Start { word, first })?;
         Ok(())
     }
 
@@ -71,7 +71,7 @@ impl Open {
 
     /// One more type is whole.
     pub(crate) fn put(&mut self, shape: usize) -> Result<(), Stop> {
-        self.parts.push(shape)?;
+        push(&mut self.parts, shape)?;
         Ok(())
     }
 
@@ -82,7 +82,7 @@ impl Open {
 
     /// One more bound.
     pub(crate) fn add_bound(&mut self, bound: usize) -> Result<(), Stop> {
-        self.bounds.push(bound)?;
+        push(&mut self.bounds, bound)?;
         Ok(())
     }
 

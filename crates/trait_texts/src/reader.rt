@@ -6,7 +6,7 @@ use crate::forms::{Forms, finish_fields};
 use crate::lexicon::{Lexicon, Word};
 use crate::open::Open;
 use crate::program::Program;
-use crate::refusal::{Problem, Stop};
+use crate::refusal::{Problem, Stop, push};
 use crate::spelling::Form;
 use crate::step::{Doing, Making};
 use search_context::path::PathKind;
@@ -238,7 +238,7 @@ impl Reader {
         }
         let shape = self.item.draft.parameter()?;
         self.lexicon.set_parameter(word.name, Some(shape));
-        self.item.parameters.push(word)?;
+        push(&mut self.item.parameters, word)?;
         self.item.subject = shape;
         Ok(())
     }
@@ -316,15 +316,11 @@ impl Reader {
         self.lexicon.declare_function(self.item.word, function)
     }
 
-    // The types of some shapes of the draft, in whose place is an empty one.
-    fn take_types(&mut self, shapes: &[usize]) -> Result<Vec<usize>, Stop> {
+    // The types of the shapes of the draft, in whose place is an empty one.
+    fn take_types(&mut self) -> Result<Vec<usize>, Stop> {
         let draft = self.take_draft();
         let types = self.program.types_of(self.alloc, draft.shapes(), &[])?;
-        let mut taken = Vec::with_capacity(self.alloc, shapes.len())?;
-        for shape in shapes {
-            taken.push(types.get(*shape).copied().ok_or(Stop::Memory)?)?;
-        }
-        Ok(taken)
+        Ok(types)
     }
 
     fn end_question(&mut self, word: Word) -> Result<(), Stop> {
@@ -333,8 +329,9 @@ impl Reader {
         if bounds.is_empty() {
             return Err(Stop::Refused(behind(word), Problem::NoTrait));
         }
-        let types = self.take_types(&[shape])?;
-        self.asking.ask(types.as_slice(), bounds.as_slice())
+        let types = self.take_types()?;
+        let subject = type_at(types.as_slice(), shape)?;
+        self.asking.ask(subject, bounds.as_slice())
     }
 
     fn begin_call(&mut self, word: Word) -> Result<(), Stop> {
@@ -346,9 +343,12 @@ impl Reader {
 
     fn end_call(&mut self) -> Result<(), Stop> {
         let start = self.open.end()?;
-        let shapes = Vec::from_slice(self.alloc, self.open.parts_from(start.first))?;
+        let types = self.take_types()?;
+        let mut arguments = Vec::new(self.alloc);
+        for shape in self.open.parts_from(start.first) {
+            push(&mut arguments, type_at(types.as_slice(), *shape)?)?;
+        }
         self.open.drop_parts(start.first);
-        let arguments = self.take_types(shapes.as_slice())?;
         self.asking.call(start.word, arguments)
     }
 
@@ -377,6 +377,11 @@ impl Reader {
     }
 }
 
+// The type of this shape.
+fn type_at(types: &[usize], shape: usize) -> Result<usize, Stop> {
+    types.get(shape).copied().ok_or(Stop::Memory)
+}
+
 // The place behind a word.
 fn behind(word: Word) -> usize {
     word.place.saturating_add(1)
@@ -401,7 +406,7 @@ fn all_above(
         };
         if *last != number {
             *last = number;
-            found.push(bound)?;
+            push(&mut found, bound)?;
             left.extend_from_slice(lexicon.above(bound))?;
         }
     }

@@ -130,3 +130,9 @@ impl<T: Drop> From<AllocFailed<T>> for Stop {
         Stop::Memory
     }
 }
+
+/// Adds an element.
+pub(crate) fn push<T: Drop>(items: &mut Vec<T>, item: T) -> Result<(), NoMemory> {
+    items.push(item)?;
+    Ok(())
+}

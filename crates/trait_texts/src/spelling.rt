@@ -1,5 +1,6 @@
 //! How types and traits are written.
 
+use crate::refusal::push;
 use search_context::context::NoMemory;
 use std::alloc::Global;
 use trait_rules::{Key, Made, Numbered, Terms};
@@ -75,8 +76,7 @@ impl<'a> Page<'a> {
     }
 
     fn later(&mut self, piece: Piece<'a>) -> Result<(), NoMemory> {
-        self.pieces.push(piece)?;
-        Ok(())
+        push(&mut self.pieces, piece)
     }
 
     // Types with commas between them, and a text behind them. They come from the last one on.
@@ -266,7 +266,7 @@ impl<'a> Spelling<'a> {
                 Some(Made::Constructor(number)) => (None, number),
                 None => break,
             };
-            names.push(self.trait_name(number).unwrap_or(b""))?;
+            push(&mut names, self.trait_name(number).unwrap_or(b""))?;
             rest = others;
         }
         Ok(names)
@@ -285,7 +285,7 @@ impl<'a> Spelling<'a> {
             let Some(Made::Applied(applied, argument)) = terms.get(at) else {
                 break;
             };
-            arguments.push(argument)?;
+            push(&mut arguments, argument)?;
             at = applied;
         }
         Ok(

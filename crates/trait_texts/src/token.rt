@@ -2,7 +2,7 @@
 ghost use Rattle.std.specs.Prelude.{◌≤◌, IfSome, length};
 
 use crate::names::{NEVER, Names};
-use crate::refusal::Stop;
+use crate::refusal::{Stop, push};
 
 /// What a word is.
 #[derive(Clone, Copy)]
@@ -110,12 +110,13 @@ fn add_word<'a>(
     if matches!(kind, Kind::Name) && Names::is_keyword(name) {
         kind = Kind::Mark;
     }
-    tokens.push(Token {
+    let token = Token {
         text,
         place,
         kind,
         name,
-    })?;
+    };
+    push(tokens, token)?;
     Ok(())
 }
 
