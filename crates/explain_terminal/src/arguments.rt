@@ -33,16 +33,11 @@ pub fn order_of<'a>(rt: &HostRuntime, words: &'a [String]) -> Result<Order<'a>, 
 {
     match order_in(rt.alloc(), words) {
         Ok(order) => Ok(order),
-        Err(error) => Err(tell_error(rt, &error)),
+        Err(error) => {
+            let _ = error.print(rt);
+            Err(status_of_error(&error))
+        }
     }
-}
-
-/// Writes help, or what is wrong with the words, and returns the exit status, by `status_of_error`.
-pub fn tell_error(rt: &HostRuntime, error: &Error) -> u8
-    ensures { result ≤ 4 }
-{
-    let _ = error.print(rt);
-    status_of_error(error)
 }
 
 /// What the words ask for. An error has the usage.

@@ -5,5 +5,5 @@
 mod arguments;
 mod progress;
 
-pub use arguments::{Order, Task, order_of, tell_error};
+pub use arguments::{Order, Task, order_of};
 pub use progress::OnTerminal;

@@ -6,6 +6,7 @@ mod same_rules;
 use crate::labels::write_goal;
 use crate::program::{all_goals, read_texts};
 use crate::stop::Stop;
+use crate::text::Text;
 pub(crate) use data::write_names;
 use data::{Data, read_data};
 use graph_data::reading::claims_of_text;
@@ -21,7 +22,7 @@ use trait_texts::{Declarations, Source, Spelling};
 /// checker, which knows nothing of the search, says of each answer whether it accepts its graph. Whether none was refused.
 pub(crate) fn check<W: Write>(
     alloc: Global,
-    sources: &[Source<'_>],
+    texts: &[Text<'_>],
     as_rustc: bool,
     file: &str,
     text: &[u8],
@@ -29,13 +30,18 @@ pub(crate) fn check<W: Write>(
 ) -> Result<bool, Stop> {
     let data = read_data(alloc, text)?;
     let claims = claims_of_text(alloc, data.page)?;
-    let mut sources_and_names = Vec::new(alloc);
-    sources_and_names.extend_from_slice(sources)?;
-    sources_and_names.push(Source {
+    let mut sources = Vec::new(alloc);
+    for text in texts {
+        sources.push(Source {
+            name: text.name.as_bytes(),
+            text: text.bytes.as_slice(),
+        })?;
+    }
+    sources.push(Source {
         name: file.as_bytes(),
         text: data.questions.as_slice(),
     })?;
-    let declared = read_texts(alloc, sources_and_names.as_slice(), as_rustc)?;
+    let declared = read_texts(alloc, sources.as_slice(), as_rustc)?;
     let (mut goals, spelling) = goals_of(alloc, &data, declared)?;
     if !are_named(alloc, &data, &goals, &spelling)? {
         return Err(refused(alloc, b"a goal has another name than in the declarations")?);
@@ -96,8 +102,11 @@ fn tell_judgements<W: Write>(alloc: Global, data: &Data<'_>, out: &mut W) -> Res
     let mut told = Vec::new(alloc);
     let status = check_page(alloc, data.page, &mut judged, &mut told, NoProgress);
     for line in judged.as_slice().split(|byte| *byte == b'\n') {
-        if let Some((name, said)) = named_line(data, line) {
-            out.write_all(name)?;
+        let Some((number, said)) = parts_of(line) else {
+            continue;
+        };
+        if let Some(name) = data.names.get(number) {
+            out.write_all(name.as_slice())?;
             out.write_all(said)?;
             out.write_all(b"\n")?;
         }
@@ -110,11 +119,10 @@ fn tell_judgements<W: Write>(alloc: Global, data: &Data<'_>, out: &mut W) -> Res
     }
 }
 
-// The name of the goal that the line tells of, and the rest of the line.
-fn named_line<'a>(data: &'a Data<'_>, line: &'a [u8]) -> Option<(&'a [u8], &'a [u8])> {
+// The number of the goal that the line tells of, and the rest of the line.
+fn parts_of(line: &[u8]) -> Option<(usize, &[u8])> {
     let end = line.iter().position(|byte| *byte == b' ')?;
     let (number, said) = line.split_at_checked(end)?;
     let number: usize = std::str::from_utf8(number).ok()?.parse().ok()?;
-    let name = data.names.get(number)?;
-    Some((name.as_slice(), said))
+    Some((number, said))
 }

@@ -1,6 +1,7 @@
 //! Why the program ends early.
 ghost use Rattle.std.specs.Prelude.{◌≤◌};
 
+use crate::arguments::USAGE;
 use graph_data::DataFault;
 use line_texts::InputFault;
 use search_context::context::NoMemory;
@@ -14,6 +15,8 @@ use std::io::Write;
 pub(crate) enum Stop {
     /// The texts are refused, for this reason.
     Refused(Vec<u8>),
+    /// The words of the command line are no call.
+    Usage,
     /// So many bytes of the data are as they have to be.
     BadData(usize),
     /// A file was not opened, for this reason.
@@ -83,6 +86,11 @@ pub(crate) fn status_told<E: Write + Drop>(came: Result<bool, Stop>, mut err: E)
         Ok(false) => 1,
         Err(Stop::Refused(reason)) => {
             let _ = err.write_all(reason.as_slice());
+            let _ = err.write_all(b"\n");
+            2
+        }
+        Err(Stop::Usage) => {
+            let _ = err.write_all(USAGE);
             let _ = err.write_all(b"\n");
             2
         }

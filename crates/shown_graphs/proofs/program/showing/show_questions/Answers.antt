@@ -16,8 +16,8 @@ loop-done-preserved g c =
     c.loop-done.invariant.same_context _ _ c.ask-came.ensures.right in
     record {
       same_context = c.ask-came.ensures.same_context ∙ c.loop-done.invariant.same_context;
-      asked = asked_more (verdicts g.X.Cx) (g.D.Delegate.script c.args.cx) c.args.shown.rules.now c.args.page c.loop-done.page
-          c.add.new.self c.pass_on.new.self _ _ _ c.questions-questions.result.now
+      asked = asked_more (verdicts g.X.Cx) (g.D.Delegate.script c.args.cx) c.args.shown.rules.now c.args.page
+          c.loop-done.page c.add.new.self c.pass_on.new.self _ _ _ c.questions-questions.result.now
           c.loop-done.done _ _ c.ask-came.result _ _
           c.loop-done-test.true c.loop-done.invariant.asked refl right
           (ap (λ b. c.loop-done.all_fine && b) c.is_fine-all_fine.ensures)
@@ -26,6 +26,7 @@ loop-done-preserved g c =
 
 pub returns-clause-shown : goal.returns-clause-shown
 returns-clause-shown g c =
-    all_shown (verdicts g.X.Cx) (g.D.Delegate.script c.args.cx) c.args.shown.rules.now c.args.page c.loop-done.page _ _ _
+    all_shown (verdicts g.X.Cx) (g.D.Delegate.script c.args.cx) c.args.shown.rules.now c.args.page
+    c.loop-done.page _ _ _
     c.questions-questions.result.now c.loop-done.done _ c.questions-questions.ensures (omega arith)
     c.loop-done.invariant.asked c.in_ok-finish.ensures.written

@@ -1,0 +1,40 @@
+//! The texts that are read.
+
+use crate::stop::Stop;
+use line_texts::read_input;
+use std::fs::File;
+use std::io::Write;
+
+/// The text of a file.
+#[derive(Drop)]
+pub(crate) struct Text<'a> {
+    pub(crate) name: &'a str,
+    pub(crate) bytes: Vec<u8>,
+}
+
+/// The texts of the files of these paths, or standard input where there are none.
+pub(crate) fn read_texts<'a>(rt: &HostRuntime, files: &[&'a str]) -> Result<Vec<Text<'a>>, Stop> {
+    let alloc = rt.alloc();
+    let mut texts = Vec::new(alloc);
+    for name in files {
+        let bytes = read_file(rt, name)?;
+        texts.push(Text { name, bytes })?;
+    }
+    if files.is_empty() {
+        let bytes = read_input(alloc, &mut rt.stdin())?;
+        texts.push(Text { name: "-", bytes })?;
+    }
+    Ok(texts)
+}
+
+/// What the file of this path has.
+pub(crate) fn read_file(rt: &HostRuntime, path: &str) -> Result<Vec<u8>, Stop> {
+    match File::open(rt, path) {
+        Ok(mut file) => Ok(read_input(rt.alloc(), &mut file)?),
+        Err(error) => {
+            let mut reason = Vec::new(rt.alloc());
+            write!(reason, "{path} cannot be opened: {error}")?;
+            Err(Stop::NotOpened(reason))
+        }
+    }
+}
