@@ -2,6 +2,7 @@
 //! goal has fewer runs than theirs, and how faults are called and shown that no rule has. What they write of texts is
 //! compared outside, by `tests/texts`.
 
+mod causes;
 mod failing;
 mod faults;
 mod limit;

@@ -76,14 +76,14 @@ const ROWS: [(&str, &str, &str); 22] = [
     (
         "a generic trait",
         "trait S<T> {}",
-        "x:1: <: `{` is expected here",
+        "x:1: <: this word is expected here: {",
     ),
     (
         "a method",
         "trait S { fn f(); }",
-        "x:1: fn: `}` is expected here",
+        "x:1: fn: this word is expected here: }",
     ),
-    ("a macro", "m! { }", "x:1: m: no type has this name"),
+    ("a macro", "m! { }", "x:1: !: this word is expected here: :"),
     (
         "a module",
         "mod a {}",

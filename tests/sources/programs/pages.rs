@@ -4,6 +4,7 @@
 use crate::programs::faults::faults_of;
 use delegate_parts::Outcome;
 use graph_pages::{Came, Form, Page};
+use graph_texts::Labelled;
 use rule_tables::{Goal, Rules};
 use search_parts::context::Fault;
 use std::alloc::Global;
@@ -71,8 +72,9 @@ fn page_with(
             reason: Reason::Runs,
         },
     ];
+    let shown = Labelled { rules, labels: &[] };
     for came in &answers {
-        page.add(alloc, rules, goal, came)?;
+        page.add(alloc, shown, goal, came)?;
         page.pass_on(&mut out)?;
     }
     page.finish(&mut out)?;
