@@ -8,5 +8,5 @@ pub use Rattle.search_context.specs.declared.context.NodeId.{NodeId}
 pub use Rattle.global_cache.specs.Store.{stored_at}
 pub use Rattle.global_cache.specs.declared.results.Place.TheVariants.{Success, WithOverflow}
 pub use Rattle.trait_rules.specs.Terms.{Term}
-pub use Rattle.trait_rules.specs.Implementing.{Implements}
+pub use Rattle.trait_goals.specs.Implementing.{Implements}
 pub use Rattle.trait_goals.specs.Known.{AreRight, IsAsked, Table, candidates_at}

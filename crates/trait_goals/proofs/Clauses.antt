@@ -5,7 +5,7 @@ use Rattle.std.specs.Prelude.{slice_get, Contains}
 use Rattle.std.specs.Option.{IfSome}
 use Rattle.std.proofs.lemmas.Option.{slice_get_cases, slice_get_within}
 use Rattle.candidate_lists.specs.Laws.Members.{Contains-from_slice_get, slice_get-from_Contains}
-use Rattle.trait_rules.specs.Implementing.{bound_of}
+use Rattle.trait_rules.specs.Rules.{bound_of}
 use Rattle.trait_rules.specs.Numbered.{Grows}
 use Rattle.trait_rules.specs.declared.rules.Clause.{Clause}
 use Rattle.trait_rules.proofs.Numbers.{at_end, in_longer, keeps_same, keeps_then}

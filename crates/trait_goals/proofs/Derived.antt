@@ -7,7 +7,8 @@ use Rattle.path_kinds.specs.declared.path.PathKind.TheVariants.{Coinductive, For
 use Rattle.search_context.specs.Question.{IsWithin, Question}
 use Rattle.question_lists.specs.Derivations.{Derives, IsDerivable, IsNotCoinductive, derive}
 use Rattle.candidate_lists.specs.Candidate as lists
-use Rattle.trait_rules.specs.Implementing.{ByRule, Implements, Query, asks as asks_clause, kind_of}
+use Rattle.trait_rules.specs.Rules.{kind_of}
+use Rattle.trait_goals.specs.Implementing.{ByRule, Implements, Query, asks as asks_clause}
 use Rattle.trait_goals.specs.Below.{Rule, Term}
 use Rattle.trait_goals.specs.Known.{AreRight, IsAsked, IsCandidate, Table, candidates_at, kind_at}
 use Rattle.trait_goals.specs.Rule.{asks, candidate_by, candidates_by, candidates_of, unknown}

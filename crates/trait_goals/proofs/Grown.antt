@@ -6,7 +6,7 @@ use Rattle.std.specs.Prelude.{slice_get, Contains}
 use Rattle.std.proofs.lemmas.List.{map-append}
 use Rattle.std.proofs.lemmas.Option.{slice_get_cases, slice_get_within}
 use Rattle.candidate_lists.specs.Laws.Members.{Contains-from_slice_get, slice_get-from_Contains}
-use Rattle.trait_rules.specs.Implementing.{bound_of, rules_for}
+use Rattle.trait_rules.specs.Rules.{bound_of, rules_for}
 use Rattle.trait_rules.specs.declared.rules.Clause.{Clause}
 use Rattle.trait_rules.proofs.Numbers.{at_before, at_end, in_longer, keeps_same, keeps_then}
 use Rattle.trait_rules.proofs.Standing.{has_term, one_term, stands_in}

@@ -6,7 +6,8 @@ use Rattle.std.specs.Option.{option_map_or, unwrap_or}
 use Rattle.open_graphs.proofs.Members.{Contains-filtered, Contains-map, Contains-mapped, filtered_member}
 use Rattle.path_kinds.specs.declared.path.PathKind.TheVariants.{Inductive}
 use Rattle.search_context.specs.Question.{Question}
-use Rattle.trait_rules.specs.Implementing.{Query, kind_of}
+use Rattle.trait_rules.specs.Rules.{kind_of}
+use Rattle.trait_goals.specs.Implementing.{Query}
 use Rattle.trait_rules.specs.Terms.{constructor}
 use Rattle.trait_rules.proofs.Standing.{has_term, one_term}
 use Rattle.trait_goals.specs.Below.{Stands, Term}

@@ -6,7 +6,8 @@ use Rattle.search_context.specs.Question.{Overlap, Question}
 use Rattle.question_lists.specs.Derivations.{IsRefutable, refute}
 use Rattle.question_lists.proofs.Mixed.{never_both}
 use Rattle.candidate_lists.specs.Candidate as lists
-use Rattle.trait_rules.specs.Implementing.{AgainstRules, ByRule, Implements, Query, asks as asks_clause, bound_of}
+use Rattle.trait_rules.specs.Rules.{bound_of}
+use Rattle.trait_goals.specs.Implementing.{AgainstRules, ByRule, Implements, Query, asks as asks_clause}
 use Rattle.trait_goals.specs.Below.{Rules, Term}
 use Rattle.trait_goals.specs.Known.{AreRight, IsAsked, Table, candidates_at, kind_at}
 use Rattle.trait_goals.specs.Rule.{asks, candidate_by, candidates_by, candidates_of, unknown}

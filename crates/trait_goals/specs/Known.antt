@@ -3,7 +3,7 @@ use Rattle.std.specs.Prelude.{◌≡◌, ◌<◌, ℕ, List, length, map, slice_
 use Rattle.std.specs.Option.{option_map_or, unwrap_or}
 use Rattle.path_kinds.specs.declared.path.PathKind.{PathKind}
 use Rattle.path_kinds.specs.declared.path.PathKind.TheVariants.{Inductive}
-use Rattle.trait_rules.specs.Implementing.{Gives, bound_of, kind_of}
+use Rattle.trait_rules.specs.Rules.{Gives, bound_of, kind_of}
 use Rattle.trait_rules.specs.declared.rules.Clause.{Clause}
 use Rattle.trait_goals.specs.Below.{ArePartsFirst, IsInstance, Made, Rule, Rules, Stands, Term, constructor_of}
 use Rattle.trait_goals.specs.declared.asked.Asked.{Asked}

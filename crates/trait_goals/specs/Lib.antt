@@ -1,4 +1,5 @@
 pub mod Below
+pub mod Implementing
 pub mod Instances
 pub mod Finding
 pub mod Known

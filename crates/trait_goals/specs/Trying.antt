@@ -1,6 +1,6 @@
 -- What became of a rule that was tried for a goal.
 use Rattle.std.specs.Prelude.{◌≡◌, ◌<◌, ◌⊎◌, ℕ, List, length, map, slice_get, Contains, Option, Some}
-use Rattle.trait_rules.specs.Implementing.{bound_of, rules_for}
+use Rattle.trait_rules.specs.Rules.{bound_of, rules_for}
 use Rattle.trait_rules.specs.declared.rules.Clause.{Clause}
 use Rattle.trait_goals.specs.Below.{IsInstance, Keeps, Made, Rule, Rules, Stands, Term, constructor_of}
 use Rattle.trait_goals.specs.Known.{HasCandidate, HasRule, IsCandidate, Table}

@@ -6,6 +6,7 @@
 //!
 //! | File of `specs/` | Has |
 //! |---|---|
+//! | `Implementing` | when a type implements a trait; it names no goal and no search |
 //! | `Instances`, `Finding` | the types that stand in the shapes of a rule, and what was found of a rule and a type |
 //! | `Trying` | what became of the rules that were tried for a goal |
 //! | `Known` | what is known of a goal, in words of rules and types |

@@ -1,3 +1,3 @@
 pub mod Numbered
 pub mod Terms
-pub mod Implementing
+pub mod Rules

@@ -2,10 +2,10 @@
 ghost use Rattle.std.specs.Prelude.{◌≡◌, ◌==◌, slice_get};
 ghost use Rattle.std.specs.List.{list_any};
 ghost use Rattle.std.specs.Option.{option_copied, option_map};
-ghost use Rattle.trait_rules.specs.Implementing.{blanket_at, bound_of, fields_at, fields_rule, impl_rule, impls_at, is_auto, kind_of, rules_for};
+ghost use Rattle.trait_rules.specs.Rules.{blanket_at, bound_of, fields_at, fields_rule, impl_rule, impls_at, is_auto, kind_of, rules_for};
 
 use crate::rules::{Bound, Listed, Rule, Rules};
-use search_context::path::PathKind;
+use path_kinds::path::PathKind;
 
 impl Rules {
     // The impls for types of a constructor.

@@ -1,4 +1,4 @@
-//! Types, traits and impls, and which types implement which traits, in words of these alone.
+//! Types, traits and impls, and which rules a trait has for a type.
 //!
 //! A type is a constructor with arguments, as `Vec<i32>`, and stands here as a number: equal types have one number. An impl
 //! is a rule: the shape of the types that it is for, and what else has to hold of such a type.
@@ -7,7 +7,7 @@
 //! |---|---|
 //! | `Numbered` | what it is to have numbers |
 //! | `Terms` | types, and which one a number stands for |
-//! | `Implementing` | when a type implements a trait; it names no search |
+//! | `Rules` | which rules a trait has for a type, and when one is a rule for it |
 #![tactic(auto)]
 
 mod given;

@@ -3,7 +3,7 @@ ghost use Rattle.std.specs.Prelude.{◌≡◌, [], length, IfOk, OnErr, slice_ge
 ghost use Rattle.std.specs.Option.{option_copied};
 ghost use Rattle.trait_rules.specs.Numbered.{Grows, Keeps};
 
-use search_context::context::NoMemory;
+use path_kinds::memory::NoMemory;
 use std::alloc::Global;
 use std::collections::HashMap;
 use std::hash::Hash;

@@ -1,6 +1,6 @@
 //! Rules: impls, and the types of which others consist.
 
-use search_context::path::PathKind;
+use path_kinds::path::PathKind;
 
 /// A type in a rule, whose parameters stand for any types. Each shape has a number, its place in the rule, and equal parameters
 /// have one.

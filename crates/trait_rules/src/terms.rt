@@ -5,7 +5,7 @@ ghost use Rattle.trait_rules.specs.Terms.{ArePartsFirst, Stands, Term, construct
 
 use crate::made::Made;
 use crate::numbered::Numbered;
-use search_context::context::NoMemory;
+use path_kinds::memory::NoMemory;
 use std::alloc::Global;
 use std::marker::Model;
 

@@ -2,7 +2,7 @@
 ghost use Rattle.std.specs.Prelude.{◌≡◌, ◌<◌, [], ◌∷◌, ◌++◌, length, IfOk, IfSome, OnOk, slice_get};
 ghost use Rattle.trait_texts.specs.WellFormed.{Each, HasPartsBefore, IsOutermost, IsWellFormed};
 
-use search_context::context::NoMemory;
+use path_kinds::memory::NoMemory;
 use std::alloc::Global;
 use std::marker::Model;
 use trait_rules::{Bound, Clause, Rule, Shape};

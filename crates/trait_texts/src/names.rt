@@ -1,7 +1,7 @@
 //! Names and their numbers.
 
 use crate::refusal::push;
-use search_context::context::NoMemory;
+use path_kinds::memory::NoMemory;
 use std::alloc::Global;
 use std::collections::HashMap;
 

@@ -4,8 +4,8 @@ ghost use Rattle.trait_texts.specs.WellFormed.{AreAsked, AreSound, IsRuleOf, IsW
 
 use crate::declarations::Question;
 use crate::draft::Draft;
-use search_context::context::NoMemory;
-use search_context::path::PathKind;
+use path_kinds::memory::NoMemory;
+use path_kinds::path::PathKind;
 use std::alloc::Global;
 use std::marker::Model;
 use std::mem;

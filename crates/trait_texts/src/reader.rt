@@ -9,7 +9,7 @@ use crate::program::Program;
 use crate::refusal::{Problem, Stop, push};
 use crate::spelling::Form;
 use crate::step::{Doing, Making};
-use search_context::path::PathKind;
+use path_kinds::path::PathKind;
 use std::alloc::Global;
 use std::mem;
 use trait_rules::Bound;

@@ -1,6 +1,6 @@
 //! Why a text is refused.
 
-use search_context::context::NoMemory;
+use path_kinds::memory::NoMemory;
 use std::alloc::{AllocError, AllocFailed, Global};
 use std::fmt::Write;
 

@@ -1,7 +1,7 @@
 //! How types and traits are written.
 
 use crate::refusal::push;
-use search_context::context::NoMemory;
+use path_kinds::memory::NoMemory;
 use std::alloc::Global;
 use trait_rules::{Key, Made, Numbered, Terms};
 

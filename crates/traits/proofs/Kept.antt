@@ -5,7 +5,7 @@ use Rattle.std.specs.Prelude.{slice_get, Result}
 use Rattle.delegate_parts.specs.declared.outcome.Outcome.{Outcome}
 use Rattle.search_context.specs.declared.context.Fault.{Fault}
 use Rattle.trait_rules.specs.Terms.{Term}
-use Rattle.trait_rules.specs.Implementing.{Implements}
+use Rattle.trait_goals.specs.Implementing.{Implements}
 use Rattle.trait_rules.proofs.Numbers.{in_longer, keeps_same, keeps_then}
 use Rattle.trait_rules.proofs.Standing.{stands_in}
 use Rattle.trait_goals.specs.Known.{IsAsked, Table}

@@ -1,7 +1,7 @@
 use Rattle.std.proofs.Common.{◌≡◌, ◌+◌, Some, None, sym, ap, subst, ◌∙◌}
 use Rattle.std.specs.Prelude.{slice_get}
 use Rattle.std.specs.Option.{option_copied, option_map}
-use Rattle.trait_rules.specs.Implementing.{rules_for}
+use Rattle.trait_rules.specs.Rules.{rules_for}
 use Rattle.trait_goals.specs.Below.{constructor_of}
 use Rattle.trait_goals.specs.Trying.{lists_in}
 use Rattle.trait_goals.proofs.Grown.{covered, none_tried, tried_more}

@@ -1,12 +1,10 @@
--- When a type implements a trait. Traits and constructors are told by their numbers, their places in the lists.
+-- Which rules a trait has for a type. Traits and constructors are told by their numbers, their places in the lists.
 use Rattle.std.specs.Prelude.{◌≡◌, ◌==◌, ◌&&◌, ℕ, Bool, false, not, if◌then◌else◌, List, [], ◌∷◌, ◌++◌, map, slice_get}
 use Rattle.std.specs.Prelude.{Contains, Option, Some, None}
 use Rattle.std.specs.List.{list_any}
 use Rattle.std.specs.Option.{option_map_or}
 use Rattle.path_kinds.specs.declared.path.PathKind.{PathKind}
 use Rattle.path_kinds.specs.declared.path.PathKind.TheVariants.{Inductive}
-use Rattle.search_context.specs.Question.{Overlap, Question}
-use Rattle.question_lists.specs.Derivations.{IsDerivable}
 use Rattle.trait_rules.specs.Terms.{Term, applied, constructor, constructor_of}
 pub use Rattle.trait_rules.specs.declared.rules.Bound.{Bound}
 pub use Rattle.trait_rules.specs.declared.rules.Bound.TheVariants.{Same, Trait as OfTrait}
@@ -16,11 +14,6 @@ pub use Rattle.trait_rules.specs.declared.rules.Rules.{Rules}
 pub use Rattle.trait_rules.specs.declared.rules.Listed.{Listed}
 pub use Rattle.trait_rules.specs.declared.rules.Shape.{Shape}
 pub use Rattle.trait_rules.specs.declared.rules.Shape.TheVariants.{Parameter, Constructor, Applied}
-
--- a question: whether the type implements the trait
-pub record Query : Type 0 where
-  pub subject : Term
-  pub bound : ℕ
 
 -- what a shape says of its type, where each shape has one
 abbrev pub IsShaped : (types : ℕ → Term) → Shape → Term → Type 0
@@ -75,33 +68,3 @@ kind_of rules bound = option_map_or (λ t. t.kind) (slice_get rules.traits.items
 abbrev pub bound_of : ℕ → Bound → ℕ
 bound_of asked Same = asked
 bound_of asked (OfTrait bound) = bound
-
--- what a clause asks
-abbrev pub asks : Rules → (ℕ → Term) → ℕ → Clause → Question Query
-asks rules types bound clause =
-    record {
-      kind = kind_of rules bound;
-      goal = record {
-        subject = types clause.shape;
-        bound = bound_of bound clause.bound;
-      };
-    }
-
--- some rule is one for the type, and all that it asks is held
-pub record ByRule (rules : Rules) (query : Query) (held : List (Question Query)) : Type 0 where
-  pub rule : Rule
-  pub types : ℕ → Term
-  pub gives : Gives rules query.bound (constructor_of query.subject) rule
-  pub is_instance : IsInstance rule types query.subject
-  pub all : (clause : Clause) → Contains rule.clauses.items clause → Contains held (asks rules types query.bound clause)
-
--- whichever rule is one for the type, something that it asks failed
-abbrev pub AgainstRules : Rules → Query → List (Question Query) → Type 0
-AgainstRules rules query failed = (rule : Rule) (types : ℕ → Term) →
-    Gives rules query.bound (constructor_of query.subject) rule → IsInstance rule types query.subject →
-    Overlap (map (asks rules types query.bound) rule.clauses.items) failed
-
--- The type implements the trait: there is a derivation by rules, which ends but where it goes round through a goal of a
--- coinductive trait.
-abbrev pub Implements : Rules → Term → ℕ → Type 0
-Implements rules subject bound = IsDerivable (ByRule rules) (record { subject = subject; bound = bound })
