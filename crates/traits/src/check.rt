@@ -6,7 +6,7 @@ mod same_rules;
 use crate::labels::write_goal;
 use crate::program::{all_goals, read_texts};
 use crate::stop::Stop;
-use crate::text::Text;
+use crate::text::{Text, sources_of};
 pub(crate) use data::write_names;
 use data::{Data, read_data};
 use graph_data::reading::claims_of_text;
@@ -29,27 +29,41 @@ pub(crate) fn check<W: Write>(
     out: &mut W,
 ) -> Result<bool, Stop> {
     let data = read_data(alloc, text)?;
-    let claims = claims_of_text(alloc, data.page)?;
-    let mut sources = Vec::new(alloc);
-    for text in texts {
-        sources.push(Source {
-            name: text.name.as_bytes(),
-            text: text.bytes.as_slice(),
-        })?;
-    }
+    let mut goals = goals_named(alloc, &data, texts, as_rustc, file)?;
+    compare_rules(alloc, &data, &mut goals)?;
+    tell_judgements(alloc, &data, out)
+}
+
+// The goals that the data names, which have to be called so in the declarations, too.
+fn goals_named(
+    alloc: Global,
+    data: &Data<'_>,
+    texts: &[Text<'_>],
+    as_rustc: bool,
+    file: &str,
+) -> Result<Goals, Stop> {
+    let mut sources = sources_of(alloc, texts)?;
     sources.push(Source {
         name: file.as_bytes(),
         text: data.questions.as_slice(),
     })?;
     let declared = read_texts(alloc, sources.as_slice(), as_rustc)?;
-    let (mut goals, spelling) = goals_of(alloc, &data, declared)?;
-    if !are_named(alloc, &data, &goals, &spelling)? {
-        return Err(refused(alloc, b"a goal has another name than in the declarations")?);
+    let (goals, spelling) = goals_of(alloc, data, declared)?;
+    if are_named(alloc, data, &goals, &spelling)? {
+        Ok(goals)
+    } else {
+        Err(refused(alloc, b"a goal has another name than in the declarations")?)
     }
-    if !are_same_rules(alloc, &mut goals, data.names.len(), &claims)? {
-        return Err(refused(alloc, b"the rules are not those of the declarations")?);
+}
+
+// The rules in the data have to be those of the declarations.
+fn compare_rules(alloc: Global, data: &Data<'_>, goals: &mut Goals) -> Result<(), Stop> {
+    let claims = claims_of_text(alloc, data.page)?;
+    if are_same_rules(alloc, goals, data.names.len(), &claims)? {
+        Ok(())
+    } else {
+        Err(refused(alloc, b"the rules are not those of the declarations")?)
     }
-    tell_judgements(alloc, &data, out)
 }
 
 fn refused(alloc: Global, reason: &[u8]) -> Result<Stop, Stop> {

@@ -20,8 +20,7 @@ use program::{answer, ask_texts, show, tell_rules};
 use std::io;
 use std::process::ExitCode;
 use stop::{Stop, status_told};
-use text::{Text, read_file, read_texts};
-use trait_texts::Source;
+use text::{Text, read_file, read_texts, sources_of};
 
 fn main(rt: HostRuntime) -> ExitCode {
     ExitCode::from(run(&rt))
@@ -79,13 +78,7 @@ fn perform_check(rt: &HostRuntime, files: &[&str], as_rustc: bool) -> Result<boo
 // Answers the questions of the texts.
 fn tell(rt: &HostRuntime, how: How, texts: &[Text<'_>], as_rustc: bool) -> Result<bool, Stop> {
     let alloc = rt.alloc();
-    let mut sources = Vec::new(alloc);
-    for text in texts {
-        sources.push(Source {
-            name: text.name.as_bytes(),
-            text: text.bytes.as_slice(),
-        })?;
-    }
+    let sources = sources_of(alloc, texts)?;
     let answered = ask_texts(alloc, sources.as_slice(), as_rustc)?;
     let mut out = rt.stdout();
     match (how.form(), how) {

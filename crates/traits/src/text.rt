@@ -2,8 +2,10 @@
 
 use crate::stop::Stop;
 use line_texts::read_input;
+use std::alloc::{AllocError, Global};
 use std::fs::File;
 use std::io::Write;
+use trait_texts::Source;
 
 /// The text of a file.
 #[derive(Drop)]
@@ -37,4 +39,19 @@ pub(crate) fn read_file(rt: &HostRuntime, path: &str) -> Result<Vec<u8>, Stop> {
             Err(Stop::NotOpened(reason))
         }
     }
+}
+
+/// The texts as they are read. There is room for one more.
+pub(crate) fn sources_of<'a>(
+    alloc: Global,
+    texts: &'a [Text<'_>],
+) -> Result<Vec<Source<'a>>, AllocError> {
+    let mut sources = Vec::with_capacity(alloc, texts.len().saturating_add(1))?;
+    for text in texts {
+        sources.push(Source {
+            name: text.name.as_bytes(),
+            text: text.bytes.as_slice(),
+        })?;
+    }
+    Ok(sources)
 }
