@@ -1,18 +1,17 @@
 -- What a rule asks, once the types of its shapes are known.
-use Rattle.std.proofs.Common.{◌≡◌, ◌<◌, ◌≤◌, ◌+◌, ℕ, ◌⊎◌, inl, inr, List, [], ◌∷◌, ◌++◌, length, Option, Some, None}
+use Rattle.std.proofs.Common.{◌≡◌, ◌<◌, ◌+◌, ℕ, inl, inr, List, [], ◌∷◌, ◌++◌, length, Some}
 use Rattle.std.proofs.Common.{refl, sym, ◌∙◌, ap, subst, arith}
 use Rattle.std.specs.Prelude.{slice_get, Contains}
-use Rattle.std.specs.Option.{IfSome}
 use Rattle.std.proofs.lemmas.Option.{slice_get_cases, slice_get_within}
 use Rattle.candidate_lists.specs.Laws.Members.{Contains-from_slice_get, slice_get-from_Contains}
 use Rattle.trait_rules.specs.Rules.{bound_of}
 use Rattle.trait_rules.specs.Numbered.{Grows}
 use Rattle.trait_rules.specs.declared.rules.Clause.{Clause}
-use Rattle.trait_rules.proofs.Numbers.{at_end, in_longer, keeps_same, keeps_then}
+use Rattle.trait_rules.proofs.Numbers.{in_longer, keeps_same, keeps_then}
 use Rattle.trait_rules.proofs.Standing.{one_term}
-use Rattle.trait_goals.specs.Below.{IsInstance, Keeps, Made, Rule, Stands, Term}
+use Rattle.trait_goals.specs.Below.{Keeps, Made, Rule, Term}
 use Rattle.trait_goals.specs.Finding.{HasInstance}
-use Rattle.trait_goals.specs.Known.{IsAsked, IsAskedBy, IsCandidate, IsOfClause}
+use Rattle.trait_goals.specs.Known.{IsAsked, IsCandidate}
 use Rattle.trait_goals.specs.Trying.{AreAsked, AreInside, AsksClause}
 use Rattle.trait_goals.specs.declared.asked.Asked.{Asked}
 use Rattle.trait_goals.proofs.Completing.{keeps_length}

@@ -1,6 +1,7 @@
 -- A type implements a trait where the number of the goal is derivable.
 use Rattle.std.proofs.Common.{◌≡◌, ℕ, List, [], ◌∷◌, map, Contains, Option, None, Some, zero, suc, refl}
 use Rattle.std.proofs.Common.{sym, ap, ◌∙◌, subst, arith}
+use Rattle.std.specs.Prelude.{slice_get}
 use Rattle.open_graphs.proofs.Members.{Contains-map, Contains-mapped}
 use Rattle.path_kinds.specs.declared.path.PathKind.{PathKind}
 use Rattle.path_kinds.specs.declared.path.PathKind.TheVariants.{Coinductive, ForcedAmbiguity}
@@ -11,7 +12,8 @@ use Rattle.trait_rules.specs.Rules.{kind_of}
 use Rattle.trait_goals.specs.Implementing.{ByRule, Implements, Query, asks as asks_clause}
 use Rattle.trait_goals.specs.Below.{Rule, Term}
 use Rattle.trait_goals.specs.Known.{AreRight, IsAsked, IsCandidate, Table, candidates_at, kind_at}
-use Rattle.trait_goals.specs.Rule.{asks, candidate_by, candidates_by, candidates_of, unknown}
+use Rattle.trait_goals.specs.Rule.{asks, candidate_by, candidates_by, candidates_of, unknown, unknown_by}
+use Rattle.trait_goals.specs.declared.asked.Asked.{Asked}
 use Rattle.trait_goals.specs.declared.asked.Candidates.{Candidates}
 use Rattle.trait_goals.proofs.Queries.{AsksFor, HasKnown, HasNumber, covers, has_query, kind_is, queries_of, query}
 use Rattle.trait_goals.proofs.Queries.{query_from}
@@ -19,6 +21,12 @@ use Rattle.trait_goals.proofs.Queries.{query_from}
 pub only_one : {A : Type 0} (x y : A) → Contains (x ∷ []) y → x ≡ y
 only_one x y (zero, l, e) = e
 only_one x y (suc k, l, e) = absurd (omega (arith, l))
+
+-- the one candidate of a goal that is not known
+unknown_is : (number : ℕ) (asked : Option Asked) (c : lists.Candidate (Question ℕ)) → Contains (unknown_by number asked)
+    c → unknown number ≡ c
+unknown_is number None c has = absurd (omega (arith, has.1))
+unknown_is number (Some asked) c has = only_one (unknown number) c has
 
 module _ (table : Table) where
   abbrev pub proves : ℕ → List (Question ℕ) → Type 0
@@ -43,9 +51,10 @@ module _ (table : Table) where
     -- a goal that says maybe is never derived
     never_unknown : (number : ℕ) → candidates_at table number ≡ None → Derives proves given number → ⊥
     never_unknown number e (derive held proved into led) =
-        let p = subst (λ o. lists.Proves (λ a. a) (candidates_by (kind_at table number) number o) held) e proved in
+        let asked = slice_get table.asked number in
+        let p = subst (λ o. lists.Proves (λ a. a) (candidates_by (kind_at table number) number asked o) held) e proved in
         let within = subst (λ c. IsWithin (lists.asked_by (λ a. a) c) held)
-        (sym (only_one (unknown number) p.candidate p.is_candidate)) p.within in
+        (sym (unknown_is number asked p.candidate p.is_candidate)) p.within in
         let own = asks ForcedAmbiguity number in
         never_unknown number e (led own (within own (0, omega arith, refl)) (λ k. absurd cc))
 
@@ -63,7 +72,8 @@ module _ (table : Table) where
           Derives (ByRule table.rules) (queries_of table right given) q
       by_known number q h known e held proved into led =
           let kind = kind_at table number in
-          let p = subst (λ o. lists.Proves (λ a. a) (candidates_by kind number o) held) e proved in
+          let p = subst (λ o. lists.Proves (λ a. a) (candidates_by kind number (slice_get table.asked number) o) held) e
+          proved in
           let m = Contains-map (candidate_by kind) known.all.items p.candidate p.is_candidate in
           let within = subst (λ c. IsWithin (lists.asked_by (λ a. a) c) held) (sym m.2) p.within in
           let by = (covers table right number q known h e).each m.0.questions.items

@@ -1,19 +1,19 @@
 -- What is known stays right as types and goals are added.
-use Rattle.std.proofs.Common.{◌≡◌, ◌<◌, ◌≤◌, ◌+◌, ℕ, ◌⊎◌, inl, inr, List, [], ◌∷◌, ◌++◌, length, map, Option, Some}
-use Rattle.std.proofs.Common.{None}
+use Rattle.std.proofs.Common.{◌≡◌, ◌<◌, ◌+◌, ℕ, zero, suc, ◌⊎◌, inl, inr, List, [], ◌∷◌, ◌++◌, length}
+use Rattle.std.proofs.Common.{Option, Some, None}
 use Rattle.std.proofs.Common.{refl, sym, ◌∙◌, ap, subst, arith}
-use Rattle.std.specs.Prelude.{slice_get, Contains}
+use Rattle.std.specs.Prelude.{slice_get, Contains, IsSome, is_some}
+use Rattle.std.specs.Option.{unwrap_or}
 use Rattle.std.proofs.lemmas.List.{map-append}
 use Rattle.std.proofs.lemmas.Option.{slice_get_cases, slice_get_within}
 use Rattle.candidate_lists.specs.Laws.Members.{Contains-from_slice_get, slice_get-from_Contains}
 use Rattle.trait_rules.specs.Rules.{bound_of, rules_for}
-use Rattle.trait_rules.specs.declared.rules.Clause.{Clause}
 use Rattle.trait_rules.proofs.Numbers.{at_before, at_end, in_longer, keeps_same, keeps_then}
 use Rattle.trait_rules.proofs.Standing.{has_term, one_term, stands_in}
 use Rattle.trait_goals.specs.Below.{ArePartsFirst, IsInstance, Keeps, Made, Rule, Rules, Stands, Term, constructor_of}
-use Rattle.trait_goals.specs.Known.{AreRight, Covers, HasCandidate, HasRule, IsAsked, IsAskedBy, IsCandidate}
-use Rattle.trait_goals.specs.Known.{IsOfClause, Table, lists_of}
-use Rattle.trait_goals.specs.Trying.{AreInside, AreTried, IsKnownMore, IsNextTried, IsTried, lists_in}
+use Rattle.trait_goals.specs.Known.{AreRight, Covers, HasCandidate, HasRule, IsAsked, IsCandidate}
+use Rattle.trait_goals.specs.Known.{known_at, lists_of}
+use Rattle.trait_goals.specs.Trying.{AreInside, AreTried, IsKnownMore, IsNextTried, lists_in}
 use Rattle.trait_goals.specs.declared.asked.Asked.{Asked}
 use Rattle.trait_goals.specs.declared.asked.Candidate.{Candidate}
 use Rattle.trait_goals.specs.declared.asked.Candidates.{Candidates}
@@ -197,31 +197,78 @@ by_next made asked rule bound term some more candidate is by = record {
     lists : lists_in more ≡ lists_in some ++ candidate.questions.items ∷ []
     lists = ap lists_in is ∙ map-append (λ c. c.questions.items) some (candidate ∷ [])
 
+-- what is known in the first list is so in the second one, too
+abbrev pub StaysKnown : List (Option Candidates) → List (Option Candidates) → Type 0
+StaysKnown some more = (n : ℕ) (k : Candidates) → slice_get some n ≡ Some (Some k) → slice_get more n ≡ Some (Some k)
+
+stands_known : (known : List (Option Candidates)) (n : ℕ) (o : Option (Option Candidates)) → slice_get known n ≡ o →
+    IsSome (unwrap_or o None) → (c : Candidates) × (slice_get known n ≡ Some (Some c))
+stands_known known n None e h = absurd cc
+stands_known known n (Some None) e h = absurd cc
+stands_known known n (Some (Some c)) e h = (c, e)
+
+-- what is known has its place
+pub known_there : (known : List (Option Candidates)) (n : ℕ) → IsSome (known_at known n) →
+    (c : Candidates) × (slice_get known n ≡ Some (Some c))
+known_there known n h = stands_known known n (slice_get known n) refl h
+
+pub there_known : (known : List (Option Candidates)) (n : ℕ) (c : Candidates) → slice_get known n ≡ Some (Some c) →
+    IsSome (known_at known n)
+there_known known n c e = ap (λ o. is_some (unwrap_or o None)) e
+
+kept_in_set : {A : Type 0} (xs : List A) (i n : ℕ) (v x : A) → slice_get xs n ≡ Some x →
+    (slice_get (set xs i v) n ≡ Some x) ⊎ (slice_get (set xs i v) n ≡ Some v)
+kept_in_set [] i n v x e = absurd cc
+kept_in_set (y ∷ xs) zero zero v x e = inr refl
+kept_in_set (y ∷ xs) zero (suc n) v x e = inl e
+kept_in_set (y ∷ xs) (suc i) zero v x e = inl e
+kept_in_set (y ∷ xs) (suc i) (suc n) v x e = kept_in_set xs i n v x e
+
+at_set : {A : Type 0} (xs : List A) (i : ℕ) (v : A) → i < length xs → slice_get (set xs i v) i ≡ Some v
+at_set [] i v less = absurd (omega arith)
+at_set (y ∷ xs) zero v less = refl
+at_set (y ∷ xs) (suc i) v less = at_set xs i v (omega arith)
+
 -- what is known of one goal more
 pub known_set : (some : List (Option Candidates)) (was : List (Option Candidates)) (goal : ℕ) (c : Candidates) →
-    ((n : ℕ) (k : Candidates) → slice_get some n ≡ Some (Some k) → slice_get was n ≡ Some (Some k)) →
-    IsKnownMore was (set some goal (Some c)) goal c
-known_set some was goal c keeps = record {
+    StaysKnown some was → StaysKnown was some → IsKnownMore was (set some goal (Some c)) goal c
+known_set some was goal c keeps stays = record {
   old = λ n k e. elim (in_set some goal n (Some c) (Some k) e) [
     | inl w ↦ inl (keeps n k w)
     | inr w ↦ let same : Some k ≡ Some c = w.1 in let sk : k ≡ c = cc in inr (w.0, sk)
   ];
+  keeps = λ n h. let k = known_there was n h in
+      elim (kept_in_set some goal n (Some c) (Some k.0) (stays n k.0 k.1)) [
+        | inl w ↦ there_known (set some goal (Some c)) n k.0 w
+        | inr w ↦ there_known (set some goal (Some c)) n c w
+      ];
 }
 
-pub known_push : (some more was : List (Option Candidates)) (goal : ℕ) (c : Candidates) →
-    ((n : ℕ) (k : Candidates) → slice_get some n ≡ Some (Some k) → slice_get was n ≡ Some (Some k)) →
-    more ≡ some ++ Some c ∷ [] → length some ≡ goal → IsKnownMore was more goal c
-known_push some more was goal c keeps is count = record {
+pub noted_set : (some : List (Option Candidates)) (goal : ℕ) (c : Candidates) → goal < length some →
+    known_at (set some goal (Some c)) goal ≡ Some c
+noted_set some goal c less = ap (λ o. unwrap_or o None) (at_set some goal (Some c) less)
+
+pub known_push : (some more was : List (Option Candidates)) (goal : ℕ) (c : Candidates) → StaysKnown some was →
+    StaysKnown was some → more ≡ some ++ Some c ∷ [] → length some ≡ goal → IsKnownMore was more goal c
+known_push some more was goal c keeps stays is count = record {
   old = λ n k e. elim (in_longer some (Some c) n (Some k) (subst (λ (l : List (Option Candidates)). slice_get l n ≡
       Some (Some k)) is e)) [
         | inl w ↦ inl (keeps n k w)
         | inr w ↦ let same : Some k ≡ Some c = w.1 in let sk : k ≡ c = cc in inr (w.0 ∙ count, sk)
       ];
+  keeps = λ n h. let k = known_there was n h in
+      there_known more n k.0 (subst (λ (l : List (Option Candidates)). slice_get l n ≡ Some (Some k.0)) (sym is)
+      (at_before some (Some c ∷ []) n (Some k.0) (stays n k.0 k.1)));
 }
 
-pub known_none : (some more was : List (Option Candidates)) → more ≡ some ++ None ∷ [] →
-    ((n : ℕ) (k : Candidates) → slice_get some n ≡ Some (Some k) → slice_get was n ≡ Some (Some k)) →
-    (n : ℕ) (k : Candidates) → slice_get more n ≡ Some (Some k) → slice_get was n ≡ Some (Some k)
+pub noted_push : (some more : List (Option Candidates)) (goal : ℕ) (c : Candidates) → more ≡ some ++ Some c ∷ [] →
+    length some ≡ goal → known_at more goal ≡ Some c
+noted_push some more goal c is count = ap (λ o. unwrap_or o None)
+    (subst (λ (l : List (Option Candidates)). slice_get l goal ≡ Some (Some c)) (sym is)
+    (at_end some (Some c) goal (sym count)))
+
+pub known_none : (some more was : List (Option Candidates)) → more ≡ some ++ None ∷ [] → StaysKnown some was →
+    StaysKnown more was
 known_none some more was is keeps n k e =
     elim (in_longer some None n (Some k) (subst (λ (l : List (Option Candidates)). slice_get l n ≡ Some (Some k)) is
     e)) [
@@ -229,10 +276,17 @@ known_none some more was is keeps n k e =
       | inr w ↦ let same : Some k ≡ None = w.1 in absurd cc
     ]
 
-pub known_same : (some was : List (Option Candidates)) (goal : ℕ) (c : Candidates) →
-    ((n : ℕ) (k : Candidates) → slice_get some n ≡ Some (Some k) → slice_get was n ≡ Some (Some k)) →
-    IsKnownMore was some goal c
-known_same some was goal c keeps = record { old = λ n k e. inl (keeps n k e) }
+pub stays_none : (some more was : List (Option Candidates)) → more ≡ some ++ None ∷ [] → StaysKnown was some →
+    StaysKnown was more
+stays_none some more was is stays n k e = subst (λ (l : List (Option Candidates)). slice_get l n ≡ Some (Some k))
+    (sym is) (at_before some (None ∷ []) n (Some k) (stays n k e))
+
+pub known_same : (some was : List (Option Candidates)) (goal : ℕ) (c : Candidates) → StaysKnown some was →
+    StaysKnown was some → IsKnownMore was some goal c
+known_same some was goal c keeps stays = record {
+  old = λ n k e. inl (keeps n k e);
+  keeps = λ n h. let k = known_there was n h in there_known some n k.0 (stays n k.0 k.1);
+}
 
 -- right it stays as types and goals are added
 module _ (rules : Rules) (was made : List Made) (before asked : List Asked) (known : List (Option Candidates))

@@ -1,18 +1,16 @@
 -- What a match of a rule's shapes with a type tells.
-use Rattle.std.proofs.Common.{◌≡◌, ◌<◌, ◌≤◌, ℕ, zero, suc, ◌⊎◌, inl, inr, Bool, true, false, List, [], ◌∷◌, ◌++◌}
-use Rattle.std.proofs.Common.{length, Option, Some, None}
-use Rattle.std.proofs.Common.{refl, sym, ◌∙◌, ap, ap₂, subst, arith}
+use Rattle.std.proofs.Common.{◌≡◌, ℕ, zero, suc, ◌⊎◌, inl, inr, Bool, true, false, List, [], ◌∷◌}
+use Rattle.std.proofs.Common.{Option, Some, None}
+use Rattle.std.proofs.Common.{refl, sym, ◌∙◌, ap, subst, arith}
 use Rattle.std.proofs.Math.ListN.{set}
 use Rattle.std.specs.Prelude.{slice_get}
 use Rattle.std.specs.Option.{IfSome, IsSomeAnd}
-use Rattle.std.proofs.lemmas.Option.{slice_get_within}
 use Rattle.trait_rules.specs.Terms.{applied, applied_at, constructor, constructor_at}
 use Rattle.trait_rules.specs.declared.made.Made.TheVariants.{Applied as MadeApplied, Constructor as MadeConstructor}
-use Rattle.trait_rules.specs.declared.rules.Shape.TheVariants.{Parameter, Constructor, Applied}
-use Rattle.trait_rules.proofs.Numbers.{in_longer}
-use Rattle.trait_rules.proofs.Standing.{has_term, one_number, one_term, stands_in}
-use Rattle.trait_goals.specs.Below.{ArePartsFirst, IsInstance, IsOnce, IsShaped, Keeps, Made, Rule, Shape, Stands, Term}
-use Rattle.trait_goals.specs.Instances.{AllTold, AreMade, AreTold, IsMade}
+use Rattle.trait_rules.specs.declared.rules.Shape.TheVariants.{Constructor, Applied}
+use Rattle.trait_rules.proofs.Standing.{one_number, one_term, stands_in}
+use Rattle.trait_goals.specs.Below.{IsInstance, IsOnce, IsShaped, Keeps, Made, Rule, Shape, Stands, Term}
+use Rattle.trait_goals.specs.Instances.{AllTold, AreTold}
 
 -- what stands in a list with one place written
 pub in_set : {A : Type 0} (xs : List A) (i n : ℕ) (v x : A) → slice_get (set xs i v) n ≡ Some x

@@ -1,5 +1,6 @@
 -- A type does not implement a trait where the number of the goal is refutable.
 use Rattle.std.proofs.Common.{◌≡◌, ℕ, List, map, Contains, Option, None, Some, refl, sym, ◌∙◌, subst, arith}
+use Rattle.std.specs.Prelude.{slice_get}
 use Rattle.open_graphs.proofs.Members.{Contains-map, Contains-mapped}
 use Rattle.path_kinds.specs.declared.path.PathKind.TheVariants.{ForcedAmbiguity}
 use Rattle.search_context.specs.Question.{Overlap, Question}
@@ -10,7 +11,8 @@ use Rattle.trait_rules.specs.Rules.{bound_of}
 use Rattle.trait_goals.specs.Implementing.{AgainstRules, ByRule, Implements, Query, asks as asks_clause}
 use Rattle.trait_goals.specs.Below.{Rules, Term}
 use Rattle.trait_goals.specs.Known.{AreRight, IsAsked, Table, candidates_at, kind_at}
-use Rattle.trait_goals.specs.Rule.{asks, candidate_by, candidates_by, candidates_of, unknown}
+use Rattle.trait_goals.specs.Rule.{asks, candidate_by, candidates_by, candidates_of, unknown, unknown_by}
+use Rattle.trait_goals.specs.declared.asked.Asked.{Asked}
 use Rattle.trait_goals.specs.declared.asked.Candidates.{Candidates}
 use Rattle.trait_goals.proofs.Derived.{only_one}
 use Rattle.trait_goals.proofs.Queries.{AsksFor, HasKnown, covers, has_query, has_question, kind_is, of_queries}
@@ -29,19 +31,21 @@ module _ (table : Table) where
   refutes number failed = lists.Refutes (λ asked. asked) (candidates_of table number) failed
 
   -- a goal that says maybe is never refuted
-  never_unknown : (number : ℕ) → candidates_at table number ≡ None → IsRefutable refutes number → ⊥
-  never_unknown number e (refute among failed is by_rule near before) =
-      let r = subst (λ o. lists.Refutes (λ a. a) (candidates_by (kind_at table number) number o) (failed number is)) e
-      (by_rule number is) in
+  never_unknown : (number : ℕ) (entry : Asked) → slice_get table.asked number ≡ Some entry →
+      candidates_at table number ≡ None → IsRefutable refutes number → ⊥
+  never_unknown number entry at e (refute among failed is by_rule near before) =
+      let r = subst (λ a. lists.Refutes (λ q. q) (unknown_by number a) (failed number is)) at
+      (subst (λ o. lists.Refutes (λ a. a) (candidates_by (kind_at table number) number (slice_get table.asked number) o)
+      (failed number is)) e (by_rule number is)) in
       let w = r (unknown number) (0, omega arith, refl) in
       let same = only_one (asks ForcedAmbiguity number) w.0 w.1 in
-      never_unknown number e (before number is (asks ForcedAmbiguity number)
+      never_unknown number entry at e (before number is (asks ForcedAmbiguity number)
       (subst (Contains (failed number is)) (sym same) w.2) (λ k. absurd cc))
 
-  is_known : (number : ℕ) (o : Option Candidates) → candidates_at table number ≡ o → IsRefutable refutes number
-      → HasKnown table number
-  is_known number None e refuted = absurd (never_unknown number e refuted)
-  is_known number (Some known) e refuted = record { known = known; is_known = e }
+  is_known : (number : ℕ) (entry : Asked) → slice_get table.asked number ≡ Some entry → (o : Option Candidates) →
+      candidates_at table number ≡ o → IsRefutable refutes number → HasKnown table number
+  is_known number entry at None e refuted = absurd (never_unknown number entry at e refuted)
+  is_known number entry at (Some known) e refuted = record { known = known; is_known = e }
 
   module _ (right : AreRight table) where
     against : (number : ℕ) (q : Query) → AsksFor table number q → (known : Candidates) →
@@ -49,7 +53,8 @@ module _ (table : Table) where
         AgainstRules table.rules q (of_queries table right failed)
     against number q h known e failed refuted rule types gives is =
         let kind = kind_at table number in
-        let r = subst (λ o. lists.Refutes (λ a. a) (candidates_by kind number o) failed) e refuted in
+        let r = subst (λ o. lists.Refutes (λ a. a) (candidates_by kind number (slice_get table.asked number) o) failed) e
+        refuted in
         let c = (covers table right number q known h e).all rule types gives is in
         let m = Contains-map (λ x. x.questions.items) known.all.items c.questions c.is_among in
         let w = r (candidate_by kind m.0) (Contains-mapped (candidate_by kind) known.all.items m.0 m.1) in
@@ -76,7 +81,7 @@ module _ (table : Table) where
         (has_query table right among number q is h)
         (λ p has.
         let w = query_from table right among p has in
-        let k = is_known w.number (candidates_at table w.number) refl
+        let k = is_known w.number w.asks_for.entry w.asks_for.at (candidates_at table w.number) refl
         (refute among failed w.is_among by_rule near before) in
         against w.number p w.asks_for k.known k.is_known (failed w.number w.is_among) (by_rule w.number w.is_among))
         (λ p has a in_failed k.

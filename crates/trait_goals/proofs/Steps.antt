@@ -9,7 +9,8 @@ use Rattle.path_kinds.specs.declared.path.PathKind.{PathKind}
 use Rattle.candidate_lists.specs.Candidate.{mark_at, mark_of}
 use Rattle.candidate_lists.specs.Frame.{steps_for, steps_of}
 use Rattle.trait_goals.specs.Known.{Table, candidates_at, kind_at}
-use Rattle.trait_goals.specs.Rule.{asks, candidate_by, candidates_by, candidates_of, most_steps, steps_at}
+use Rattle.trait_goals.specs.Rule.{asks, candidate_by, candidates_by, candidates_of, most_steps, steps_at, unknown_by}
+use Rattle.trait_goals.specs.declared.asked.Asked.{Asked}
 use Rattle.trait_goals.specs.declared.asked.Candidate.{Candidate}
 use Rattle.trait_goals.specs.declared.asked.Candidates.{Candidates}
 
@@ -22,9 +23,14 @@ same_steps kind (c ∷ all) =
     ∙ ap₂ (λ n m. n + 3 + m) (length-map c.questions.items (asks kind)) (same_steps kind all)
     ∙ sym (sum_by-cons (λ x. length x.questions.items + 3) c all)
 
-steps_by : (kind : PathKind) (goal : ℕ) (o : Option Candidates) → steps_for (candidates_by kind goal o) ≤ steps_at o + 7
-steps_by kind goal None = omega arith
-steps_by kind goal (Some known) =
+unknown_steps : (goal : ℕ) (asked : Option Asked) → steps_for (unknown_by goal asked) ≤ 7
+unknown_steps goal None = omega arith
+unknown_steps goal (Some asked) = omega arith
+
+steps_by : (kind : PathKind) (goal : ℕ) (asked : Option Asked) (o : Option Candidates)
+    → steps_for (candidates_by kind goal asked o) ≤ steps_at o + 7
+steps_by kind goal asked None = let few = unknown_steps goal asked in omega arith
+steps_by kind goal asked (Some known) =
     let steps = same_steps kind known.all.items in
     let count = length-map known.all.items (candidate_by kind) in omega arith
 
@@ -37,7 +43,7 @@ known_within known goal (Some p) e =
 
 pub steps_within : (table : Table) (goal : ℕ) → steps_for (candidates_of table goal) ≤ most_steps table
 steps_within table goal =
-    let by = steps_by (kind_at table goal) goal (candidates_at table goal) in
+    let by = steps_by (kind_at table goal) goal (slice_get table.asked goal) (candidates_at table goal) in
     let within = known_within table.known goal (slice_get table.known goal) refl in omega arith
 
 -- no known candidate is marked
@@ -45,6 +51,6 @@ pub not_marked : (table : Table) (goal place : ℕ) (known : Candidates) (candid
     candidates_at table goal ≡ Some known → slice_get known.all.items place ≡ Some candidate →
     Some false ≡ mark_at (candidates_of table goal) place
 not_marked table goal place known candidate e at =
-    sym (ap (λ o. mark_at (candidates_by (kind_at table goal) goal o) place) e
+    sym (ap (λ o. mark_at (candidates_by (kind_at table goal) goal (slice_get table.asked goal) o) place) e
     ∙ ap mark_of (slice_get-map (candidate_by (kind_at table goal)) known.all.items place
     ∙ ap (option_map (candidate_by (kind_at table goal))) at))

@@ -1,5 +1,5 @@
 -- What is known of a goal, in words of rules and types.
-use Rattle.std.specs.Prelude.{◌≡◌, ◌<◌, ℕ, List, length, map, slice_get, Contains, Option, Some, None}
+use Rattle.std.specs.Prelude.{◌≡◌, ◌<◌, ◌≤◌, ℕ, List, length, map, slice_get, Contains, Option, Some, None, IsSome}
 use Rattle.std.specs.Option.{option_map_or, unwrap_or}
 use Rattle.path_kinds.specs.declared.path.PathKind.{PathKind}
 use Rattle.path_kinds.specs.declared.path.PathKind.TheVariants.{Inductive}
@@ -7,7 +7,6 @@ use Rattle.trait_rules.specs.Rules.{Gives, bound_of, kind_of}
 use Rattle.trait_rules.specs.declared.rules.Clause.{Clause}
 use Rattle.trait_goals.specs.Below.{ArePartsFirst, IsInstance, Made, Rule, Rules, Stands, Term, constructor_of}
 use Rattle.trait_goals.specs.declared.asked.Asked.{Asked}
-use Rattle.trait_goals.specs.declared.asked.Candidate.{Candidate}
 use Rattle.trait_goals.specs.declared.asked.Candidates.{Candidates}
 
 -- the goal of this number asks whether the type implements the trait
@@ -88,9 +87,29 @@ pub record AreRight (table : Table) : Type 0 where
   pub inside : (number : ℕ) (entry : Asked) → slice_get table.asked number ≡ Some entry →
       entry.subject < length table.made
 
+-- what is known at a place
+abbrev pub known_at : List (Option Candidates) → ℕ → Option Candidates
+known_at known goal = unwrap_or (slice_get known goal) None
+
 -- the candidates of a goal, if they are known
 abbrev pub candidates_at : Table → ℕ → Option Candidates
-candidates_at table goal = unwrap_or (slice_get table.known goal) None
+candidates_at table goal = known_at table.known goal
+
+-- the goal of this number is known: its candidates are
+abbrev pub IsKnown : Table → ℕ → Type 0
+IsKnown table goal = IsSome (candidates_at table goal)
+
+-- this goal is the first one from a number on that is not known
+pub record IsUnknownFrom (table : Table) (from goal : ℕ) : Type 0 where
+  pub at_or_after : from ≤ goal
+  pub within : goal < length table.asked
+  pub unknown : IsKnown table goal → ⊥
+  pub known_before : (other : ℕ) → from ≤ other → other < goal → IsKnown table other
+
+-- there is one, or all goals from the number on are known
+abbrev pub IsFirstUnknown : Table → ℕ → Option ℕ → Type 0
+IsFirstUnknown table from (Some goal) = IsUnknownFrom table from goal
+IsFirstUnknown table from None = (goal : ℕ) → from ≤ goal → goal < length table.asked → IsKnown table goal
 
 -- how a goal asks
 abbrev pub kind_at : Table → ℕ → PathKind

@@ -1,12 +1,13 @@
 -- The candidates of a goal as a search takes them: those that are known, and where they are not, one that asks the goal
--- itself by forced ambiguity, so that the goal says maybe.
-use Rattle.std.specs.Prelude.{ℕ, ◌+◌, false, List, [], ◌∷◌, length, map, sum_by, Option, Some, None}
+-- itself by forced ambiguity, so that the goal says maybe. A number that is no goal's has none.
+use Rattle.std.specs.Prelude.{ℕ, ◌+◌, false, List, [], ◌∷◌, length, map, slice_get, sum_by, Option, Some, None}
 use Rattle.std.specs.Option.{option_map_or}
 use Rattle.path_kinds.specs.declared.path.PathKind.{PathKind}
 use Rattle.path_kinds.specs.declared.path.PathKind.TheVariants.{ForcedAmbiguity}
 use Rattle.search_context.specs.Question.{Question}
 use Rattle.candidate_lists.specs.Candidate as lists
 use Rattle.trait_goals.specs.Known.{Table, candidates_at, kind_at}
+use Rattle.trait_goals.specs.declared.asked.Asked.{Asked}
 use Rattle.trait_goals.specs.declared.asked.Candidate.{Candidate}
 use Rattle.trait_goals.specs.declared.asked.Candidates.{Candidates}
 
@@ -21,12 +22,18 @@ candidate_by kind candidate = record { is_marked = false; questions = map (asks 
 abbrev pub unknown : ℕ → lists.Candidate (Question ℕ)
 unknown goal = record { is_marked = false; questions = asks ForcedAmbiguity goal ∷ [] }
 
-abbrev pub candidates_by : PathKind → ℕ → Option Candidates → List (lists.Candidate (Question ℕ))
-candidates_by kind goal None = unknown goal ∷ []
-candidates_by kind goal (Some known) = map (candidate_by kind) known.all.items
+-- the candidates of a number where none are known
+abbrev pub unknown_by : ℕ → Option Asked → List (lists.Candidate (Question ℕ))
+unknown_by goal None = []
+unknown_by goal (Some asked) = unknown goal ∷ []
+
+abbrev pub candidates_by : PathKind → ℕ → Option Asked → Option Candidates → List (lists.Candidate (Question ℕ))
+candidates_by kind goal asked None = unknown_by goal asked
+candidates_by kind goal asked (Some known) = map (candidate_by kind) known.all.items
 
 abbrev pub candidates_of : Table → ℕ → List (lists.Candidate (Question ℕ))
-candidates_of table goal = candidates_by (kind_at table goal) goal (candidates_at table goal)
+candidates_of table goal =
+    candidates_by (kind_at table goal) goal (slice_get table.asked goal) (candidates_at table goal)
 
 -- the steps that the known candidates of a goal take at most
 abbrev pub steps_at : Option Candidates → ℕ

@@ -1,9 +1,9 @@
 -- What became of a rule that was tried for a goal.
-use Rattle.std.specs.Prelude.{◌≡◌, ◌<◌, ◌⊎◌, ℕ, List, length, map, slice_get, Contains, Option, Some}
+use Rattle.std.specs.Prelude.{◌≡◌, ◌<◌, ◌⊎◌, ℕ, List, length, map, slice_get, Contains, Option, Some, IsSome}
 use Rattle.trait_rules.specs.Rules.{bound_of, rules_for}
 use Rattle.trait_rules.specs.declared.rules.Clause.{Clause}
 use Rattle.trait_goals.specs.Below.{IsInstance, Keeps, Made, Rule, Rules, Stands, Term, constructor_of}
-use Rattle.trait_goals.specs.Known.{HasCandidate, HasRule, IsCandidate, Table}
+use Rattle.trait_goals.specs.Known.{HasCandidate, HasRule, IsCandidate, IsKnown, Table, known_at}
 use Rattle.trait_goals.specs.declared.asked.Asked.{Asked}
 use Rattle.trait_goals.specs.declared.asked.Candidate.{Candidate}
 use Rattle.trait_goals.specs.declared.asked.Candidates.{Candidates}
@@ -63,9 +63,11 @@ pub record AreTried (rules : Rules) (was made : List Made) (before asked : List 
 pub record IsKnownMore (some more : List (Option Candidates)) (goal : ℕ) (candidates : Candidates) : Type 0 where
   pub old : (n : ℕ) (c : Candidates) → slice_get more n ≡ Some (Some c) →
       (slice_get some n ≡ Some (Some c)) ⊎ ((n ≡ goal) × (c ≡ candidates))
+  pub keeps : (n : ℕ) → IsSome (known_at some n) → IsSome (known_at more n)
 
--- the same rules, and what was there of types and goals
+-- the same rules, and what was there of types and goals; what was known is known
 pub record Extends (table more : Table) : Type 0 where
   pub same_rules : more.rules ≡ table.rules
   pub keeps_made : Keeps table.made more.made
   pub keeps_asked : Keeps table.asked more.asked
+  pub keeps_known : (goal : ℕ) → IsKnown table goal → IsKnown more goal

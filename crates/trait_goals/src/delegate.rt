@@ -36,7 +36,8 @@ pub struct GoalsOf<L> {
 pub type GoalsDelegate<L> = CandidatesDelegate<GoalsOf<L>, 8, 1>;
 
 // Each known candidate asks its goals by the kind of the trait. A goal whose candidates are not
-// known has one, which asks the goal itself by forced ambiguity, and so says maybe.
+// known has one, which asks the goal itself by forced ambiguity, and so says maybe. A number that is
+// no goal's has none.
 impl<L: LendsGoals> CandidateLists for GoalsOf<L> {
     ghost use Rattle.std.proofs.Common.{rules};
     ghost use Rattle.std.specs.Prelude.{ℕ};
@@ -55,12 +56,16 @@ impl<L: LendsGoals> CandidateLists for GoalsOf<L> {
     ghost same_input = { Prim.search rules };
 
     fn mark(self, goal: usize, candidate: usize) -> Option<bool> {
-        match self.lender.goals().candidates(goal) {
+        let goals = self.lender.goals();
+        match goals.candidates(goal) {
             Some(known) => {
                 let _candidate = known.all.get(candidate)?;
                 Some(false)
             }
-            None if candidate == 0 => Some(false),
+            None if candidate == 0 => {
+                let _asked = goals.asked(goal)?;
+                Some(false)
+            }
             None => None,
         }
     }
@@ -73,7 +78,10 @@ impl<L: LendsGoals> CandidateLists for GoalsOf<L> {
                 let asked = candidate.questions.get(place)?;
                 Some((goals.kind(goal), *asked))
             }
-            None if candidate == 0 && place == 0 => Some((PathKind::ForcedAmbiguity, goal)),
+            None if candidate == 0 && place == 0 => {
+                let _asked = goals.asked(goal)?;
+                Some((PathKind::ForcedAmbiguity, goal))
+            }
             None => None,
         }
     }

@@ -1,7 +1,7 @@
 //! Goals with their numbers, and what is known of them.
-ghost use Rattle.std.specs.Prelude.{◌≡◌, length, slice_get, IfOk, IfSome, Some};
+ghost use Rattle.std.specs.Prelude.{◌≡◌, true, length, slice_get, IfOk, IfSome, Some};
 ghost use Rattle.std.specs.Option.{option_copied};
-ghost use Rattle.trait_goals.specs.Known.{AreRight, candidates_at, kind_at};
+ghost use Rattle.trait_goals.specs.Known.{AreRight, IsFirstUnknown, IsKnown, candidates_at, kind_at};
 ghost use Rattle.trait_goals.specs.Trying.{Extends};
 
 use crate::asked::{Asked, Candidates};
@@ -74,9 +74,11 @@ impl Goals {
         Ok(Some(number))
     }
 
-    /// Finds the candidates of a goal, with the types and goals that they bring. Whether all rules could be tried.
+    /// Finds the candidates of a goal, with the types and goals that they bring: it is known then. Whether all rules could be
+    /// tried: else it is known only if it was before.
     pub fn expand(&mut self, alloc: Global, goal: usize) -> Result<bool, NoMemory>
-        ensures { Extends self.old self.new }
+        ensures extends { Extends self.old self.new }
+        ensures known { IfOk result (λ is_known. is_known ≡ true → IsKnown self.new goal) }
     {
         let Some(asked) = self.asked.get(goal) else {
             return Ok(false);
@@ -99,6 +101,18 @@ impl Goals {
             Some(known) => known.as_ref(),
             None => None,
         }
+    }
+
+    /// The first goal from this number on whose candidates are not known.
+    pub fn first_unknown(&self, from: usize) -> Option<usize>
+        ensures { IsFirstUnknown self.now from result }
+    {
+        for goal in from..self.len() {
+            if self.candidates(goal).is_none() {
+                return Some(goal);
+            }
+        }
+        None
     }
 
     /// How a goal asks what it needs.

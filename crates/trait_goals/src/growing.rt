@@ -1,8 +1,8 @@
 //! Goals become known.
-ghost use Rattle.std.specs.Prelude.{◌≡◌, ◌<◌, ◌+◌, ◌^◌, true, length, IfOk, IfSome};
+ghost use Rattle.std.specs.Prelude.{◌≡◌, ◌<◌, ◌+◌, ◌^◌, true, length, IfOk, IfSome, OnOk, Some};
 ghost use Rattle.std.specs.Option.{option_copied};
 ghost use Rattle.trait_goals.specs.Below.{Keeps, Stands, Term};
-ghost use Rattle.trait_goals.specs.Known.{Covers, lists_of};
+ghost use Rattle.trait_goals.specs.Known.{Covers, known_at, lists_of};
 ghost use Rattle.trait_goals.specs.Trying.{AreInside, IsKnownMore, IsNextTried, lists_in};
 
 use crate::asked::{Asked, Candidate, Candidates};
@@ -82,7 +82,8 @@ pub(crate) fn note_known(
     goal: usize,
     candidates: Candidates,
 ) -> Result<(), NoMemory>
-    ensures { IsKnownMore known.old.items known.new.items goal candidates }
+    ensures more { IsKnownMore known.old.items known.new.items goal candidates }
+    ensures noted { OnOk result (known_at known.new.items goal ≡ Some candidates) }
 {
     for _ in known.len()..goal {
         known.push(None)?;

@@ -1,10 +1,9 @@
-use Rattle.std.proofs.Common.{◌≡◌, ◌+◌, Some, None, sym, ap, subst, ◌∙◌}
-use Rattle.std.specs.Prelude.{slice_get}
+use Rattle.std.proofs.Common.{◌≡◌, sym, ap, ◌∙◌}
 use Rattle.std.specs.Option.{option_copied, option_map}
-use Rattle.trait_rules.specs.Rules.{rules_for}
+
 use Rattle.trait_goals.specs.Below.{constructor_of}
 use Rattle.trait_goals.specs.Trying.{lists_in}
-use Rattle.trait_goals.proofs.Grown.{covered, none_tried, tried_more}
+use Rattle.trait_goals.proofs.Grown.{covered, tried_more}
 use Rattle.trait_goals.proofs.growing.find_candidates.Goals as goal
 
 pub returns-in_default-rule_at-clause-covers : goal.returns-in_default-rule_at-clause-covers

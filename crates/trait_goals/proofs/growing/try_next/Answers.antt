@@ -1,4 +1,4 @@
-use Rattle.std.proofs.Common.{◌≡◌, Some, sym, subst}
+use Rattle.std.proofs.Common.{sym, subst}
 use Rattle.std.specs.Option.{option_copied}
 use Rattle.trait_goals.specs.Trying.{IsNextTried, IsTried, lists_in}
 use Rattle.trait_goals.proofs.Grown.{apart_next, by_next}

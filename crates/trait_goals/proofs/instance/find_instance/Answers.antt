@@ -1,5 +1,4 @@
 use Rattle.std.proofs.Common.{◌≡◌, Some, sym, subst, ◌∙◌, ap, arith}
-use Rattle.std.specs.Prelude.{slice_get}
 use Rattle.std.proofs.lemmas.Bool.Decides.{nat_tests}
 use Rattle.trait_goals.specs.Instances.{AreTold}
 use Rattle.trait_goals.proofs.Completing.{has_instance, head_apart, nothing_found}

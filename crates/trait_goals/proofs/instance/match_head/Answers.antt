@@ -1,4 +1,3 @@
-use Rattle.std.proofs.Common.{◌≡◌, true, false, sym, ◌∙◌}
 use Rattle.trait_goals.proofs.Matching.{head_told, is_apart}
 use Rattle.trait_goals.proofs.instance.match_head.Goals as goal
 

@@ -1,7 +1,5 @@
-use Rattle.std.proofs.Common.{◌≡◌, Some, sym, subst}
-use Rattle.std.specs.Prelude.{slice_get}
-use Rattle.trait_goals.specs.Below.{IsShaped, Keeps, Stands}
-use Rattle.trait_goals.specs.Instances.{AllTold}
+use Rattle.std.proofs.Common.{sym, subst}
+use Rattle.trait_goals.specs.Below.{IsShaped}
 use Rattle.trait_goals.proofs.Matching.{new_applied, new_constructor}
 use Rattle.trait_goals.proofs.instance.number_of.Goals as goal
 

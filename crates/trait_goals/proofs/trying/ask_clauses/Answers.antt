@@ -1,6 +1,4 @@
-use Rattle.std.proofs.Common.{◌≡◌, Some, sym, subst, ap, ◌∙◌, arith}
-use Rattle.std.specs.Prelude.{slice_get}
-use Rattle.trait_rules.specs.Rules.{bound_of}
+use Rattle.std.proofs.Common.{Some, sym, ap, ◌∙◌, arith}
 use Rattle.trait_goals.proofs.Matching.{read_at}
 use Rattle.trait_goals.proofs.Clauses.{asked_more, inside_grown}
 use Rattle.trait_goals.proofs.trying.ask_clauses.Goals as goal

@@ -1,4 +1,4 @@
-use Rattle.std.proofs.Common.{◌≡◌, length, sym, subst}
+use Rattle.std.proofs.Common.{length, subst}
 use Rattle.trait_goals.specs.Finding.{IsFound}
 use Rattle.trait_goals.specs.Trying.{AreAsked}
 use Rattle.trait_goals.proofs.Matching.{some_so}

@@ -24,7 +24,7 @@ invariant_of-self-in_err-note_known c =
     c.find_candidates-found.ensures.asked c.len-count.ensures.first
     (c.find_candidates-found.ensures.inside (record { inside = c.self.invariant.inside }))
     c.note_known.new.known.items c.args.goal
-    c.in-Some.asked c.in-Some-2.candidates (sym c.in-Some.ensures.value) c.note_known.ensures
+    c.in-Some.asked c.in-Some-2.candidates (sym c.in-Some.ensures.value) c.note_known.ensures.more
     (some_so _ _ _ c.in-Some-2.is c.in_ok-candidates.ensures.covers)
 
 pub invariant_of-self-2 : goal.invariant_of-self-2
@@ -34,5 +34,5 @@ invariant_of-self-2 c =
     c.find_candidates-found.ensures.asked c.len-count.ensures.first
     (c.find_candidates-found.ensures.inside (record { inside = c.self.invariant.inside }))
     c.note_known.new.known.items c.args.goal
-    c.in-Some.asked c.in-Some-2.candidates (sym c.in-Some.ensures.value) c.note_known.ensures
+    c.in-Some.asked c.in-Some-2.candidates (sym c.in-Some.ensures.value) c.note_known.ensures.more
     (some_so _ _ _ c.in-Some-2.is c.in_ok-candidates.ensures.covers)
