@@ -26,6 +26,19 @@ impl<T> Plain for Vec<(T)> {}
 struct Vec<T>(T);
 fn is_plain<T: Plain + Auto, U: ?Sized>() where (T, U): Marked {}
 fn main() { is_plain::<Unit, ()>(); is_plain::<Named<'static, i32, u8>, dyn Plain>(); }
+fn takes<T: Plain, U>(_: T, mut x: &U, y: (U, u8),) where U: Marked, {}
+fn gives<'a, T: Auto + 'a, U>(_: T, mut x: U, y: (U, u8), z: &'a mut T) where (T, U): Plain, 'a: 'a, {
+    let t: Vec<T> = loop {};
+    let mut u: Unit = todo!();
+    let _: Unit = panic!();
+    let v: T = unimplemented!();
+    takes(t, &x, y);
+    takes::<&mut T, U>(z, &x, y,);
+    is_plain::<T, Vec<U>>();
+    takes(&mut &u, &x, y);
+}
+gives::T: Auto + Plain?
+(gives::T, gives::U): Plain?
 Choice<(Unit,)>: Auto + Safe?
 &'static dyn Lower: Auto?
 fn(Unit) -> !: Plain?
@@ -114,6 +127,64 @@ ANSWERED = [
         "trait B {} E<u8, N>: A? E<N, u8>: A? Z: A? dyn A: A? dyn B: A? fn(N) -> N: A? *const N: A?",
         "E<u8, N>: A yes\nE<N, u8>: A no\nZ: A yes\ndyn A: A yes\ndyn B: A no\nfn(N) -> N: A yes\n*const N: A no\n",
     ),
+    # values of calls
+    (
+        "trait A {} impl A for u8 {} impl A for &u8 {} fn f<T: A>(_: T) {} fn g<T: A>(_: &T, _: T) {} "
+        "fn main(x: u8, mut y: &u8, _: i8) { f(x); f(y); g(y, x); f(&y); g(&x, x,); } fn h(mut z: i8) {}",
+        "u8: A yes\n&u8: A yes\nu8: A yes\n&&u8: A no\nu8: A yes\n",
+    ),
+    (
+        "trait A {} struct S<T>(T); impl<T: A> A for S<T> {} impl A for u8 {} fn f<T, U: A>(_: S<T>, _: [U; 3]) "
+        "where T: A {} fn g() { let x: S<S<u8>> = loop {}; let y: [i8; 3] = todo!(); f(x, y); let x: S<i8> = panic!(); "
+        "f(x, y); f::<i8, i8>(x, y); }",
+        "i8: A no\nS<u8>: A yes\ni8: A no\ni8: A no\ni8: A no\ni8: A no\n",
+    ),
+    ("fn f<T>(_: T) {} fn g(x: u8, x2: &mut u8) { f(x); f(&mut x2); f::<u8>(x) }", ""),
+    ("fn f<T: A>(_: T) {} trait A {} fn g(x: u8) { f(x) }", "u8: A no\n"),
+    # parameters of functions, in their bodies
+    (
+        "trait A {} auto trait B {} struct S<T>(T); impl<T: A> A for S<T> {} fn a<T: A>() {} fn b<T: B>(_: T) {} "
+        "fn f<T: A, U: B>(x: S<T>, y: S<U>) { a::<T>(); a::<S<T>>(); a::<U>(); b(x); b(y); } "
+        "fn g<T: B, U>(x: S<T>, y: S<U>) { a::<T>(); a::<S<T>>(); b(x); b(y); }",
+        "T: A yes\nS<T>: A yes\nU: A no\nS<T>: B no\nS<U>: B yes\n"
+        "T: A no\nS<T>: A no\nS<T>: B yes\nS<U>: B no\n",
+    ),
+    (
+        "auto trait A {} struct R<T>(T); impl<T> !A for R<T> {} fn a<T: A>(_: T) {} "
+        "fn f<T>(x: R<T>, y: (R<T>, u8), z: R<u8>, u: R<R<T>>) where R<T>: A { a(x); a(y); a(z); a(u); }",
+        "R<T>: A yes\n(R<T>, u8): A yes\nR<u8>: A no\nR<R<T>>: A no\n",
+    ),
+    (
+        "auto trait A {} struct S<T>(T); fn a<T: A>(_: T) {} "
+        "fn f<T, U>(x: S<T>, y: S<u8>, z: S<U>) where S<T>: A { a(x); a(y); a(z); }",
+        "S<T>: A yes\nS<u8>: A yes\nS<U>: A no\n",
+    ),
+    (
+        "trait A {} trait B: A {} trait C: B {} fn a<T: A>() {} fn c<T: C>() {} struct S<T>(T); "
+        "fn f<T: C>() where S<T>: B { a::<T>(); c::<T>(); a::<S<T>>(); c::<S<T>>(); a::<&T>(); }",
+        "T: A yes\nT: C yes\nS<T>: A yes\nS<T>: C no\n&T: A no\n",
+    ),
+    (
+        "trait A {} f::T: A? (g::T, f::T): A? fn f<T: A>() { a::<T>(); } fn g<T>() where (T, T): A { a::<(T, T)>(); } "
+        "fn a<T: A>() {} (g::T, g::T): A? auto: A? struct auto; auto trait B {} &g::T: B?",
+        "T: A yes\n(T, T): A no\nT: A yes\n(T, T): A yes\n(T, T): A yes\nauto: A no\n&T: B no\n",
+    ),
+    (
+        "trait A {} struct S<T>(T); impl<T> A for S<T> where S<T>: A {} fn a<T: A>(_: T) {} "
+        "fn f<T>(x: S<T>) { a(x); } fn g<T>(x: S<T>) where S<T>: A { a(x); }",
+        "S<T>: A no\nS<T>: A yes\n",
+        "S<T>: A maybe (cycle)\nS<T>: A yes\n",
+    ),
+    (
+        "trait A {} fn a<T: A>() {} fn f<'a, T: 'a, U: ?Sized + 'a>() where T: 'a, u8: 'a, u8: ?Sized, 'a: 'a { a::<T>(); }",
+        "T: A no\n",
+    ),
+    (
+        "auto trait Sized {} impl<T> !Sized for [T] {} struct S<T>(T); fn s<T: Sized>() {} fn f<T, U: ?Sized, V, W: ?Sized "
+        "+ Sized>() where V: ?Sized, S<T>: ?Sized { s::<T>(); s::<U>(); s::<S<T>>(); s::<S<U>>(); s::<V>(); s::<[T]>(); s::<W>(); }",
+        "T: Sized yes\nU: Sized no\nS<T>: Sized yes\nS<U>: Sized no\nV: Sized no\n[T]: Sized no\nW: Sized yes\n",
+    ),
+    ("fn s<T: Sized>() {} fn f<T>() { s::<T>(); } trait A {} trait Sized: A {} f::T: A?", "T: Sized yes\nT: A yes\n"),
     # heads and where-clauses
     (
         "trait A {} trait B {} struct S<T>(T); impl<T> A for S<T> where Self: B {} "
@@ -180,14 +251,54 @@ REFUSED = [
     ("enum E;", 1, ";"),
     ("#[derive(Clone)]\nstruct S;", 1, "derive ["),
     ("struct S {\n #[cfg(test)] x: u8 }", 2, "# cfg"),
-    ("fn f(x: i32) {}", 1, "x"),
+    ("fn f(x: i32,\ny) {}", 2, ")"),
+    ("fn f(\n&x: i32) {}", 2, "&"),
+    ("struct S;\nfn f(\n&self) {}", 3, "&"),
+    ("struct S;\nfn f(\nself) {}", 3, "self"),
+    ("fn f((a, b): (u8, u8)) {}", 1, "("),
+    ("fn f(x: u8, _: u8, _: u8,\nx: i8) {}", 2, "x"),
+    ("trait A {}\nfn f(x: impl A) {}", 2, "impl"),
     ("fn f() -> i32 {}", 1, "->"),
-    ("fn f() {\n let x = 1;\n}", 2, "let"),
-    ("fn f<T>() {}\nfn main() {\n f::<u8>()\n}", 4, "}"),
+    ("fn f() {\n let x = 1;\n}", 2, "="),
+    ("fn f() {\n let x: u8 = 1;\n}", 2, "1"),
+    ("fn f() {\n let x: u8 =\ng();\n}", 3, "g"),
+    ('fn f() {\n let x: u8 = panic!(\n"");\n}', 3, '""'),
+    ("fn f() {\n let x: u8 = loop {\nbreak };\n}", 3, "break"),
+    ("fn f() {\n let x: u8;\n}", 2, ";"),
+    ("fn f() {\n let (x, y): (u8, u8) = todo!();\n}", 2, "("),
+    ("fn f() {\n let ref x: u8 = todo!();\n}", 2, "ref x"),
+    ("fn f() {\n let x: _ = todo!();\n}", 2, "_"),
+    ("fn f<T>(_: T) {}\nfn g() {\n f(x);\n}", 3, "x"),
+    ("fn f<T>(_: T) {}\nfn g(x: u8) {\n f(\nx.y);\n}", 4, "."),
+    ("fn f<T>(_: T) {}\nfn g(x: u8) {\n f(\n1);\n}", 4, "1"),
+    ("fn f<T>(_: T) {}\nfn g(x: u8) {\n f(\n(x, x));\n}", 4, "("),
+    ("fn f<T>(_: T) {}\nfn g(x: u8) {\n f(\nf(x));\n}", 4, "f ("),
+    ("fn f<T>(_: T) {}\nfn g(x: u8) {\n f(x, x);\n}", 3, "f"),
+    ("fn f<T>(_: T) {}\nfn g(x: u8) {\n f();\n}", 3, "f"),
+    ("fn f<T>(_: T) {}\nfn g(x: u8) {\n f::<u8>();\n}", 3, "f"),
+    ("fn f<T>(_: T) {}\nfn g(x: u8) {\n f::<i8>(\nx);\n}", 4, "x"),
+    ("fn f<T>(_: &T) {}\nfn g(x: &mut u8) {\n f(\nx);\n}", 4, "x"),
+    ("fn f<T>(_: T, _: T) {}\nfn g(x: u8, y: i8) {\n f(x,\ny);\n}", 4, "y"),
+    ("fn f<T>(_: T, _: (u8, T)) {}\nfn g(x: u8, y: (i8, u8)) {\n f(x,\ny);\n}", 4, "y"),
+    ("fn f<T, U>(_: T) {}\nfn g(x: u8) {\n f(x);\n}", 3, "f"),
+    ("fn f<T>(_: T) {}\nfn g(x: !) {\n f(x);\n}", 3, "x"),
+    ("fn f<T>(_: T) {}\nfn g(f: u8) {\n f(f);\n}", 3, "f"),
+    ("fn f<T>(_: T) {}\nfn g() {\n f::<T>();\n}", 3, "T"),
+    ("fn f<T>(x: T) {}\nfn g() {\n f(x);\n}", 3, "x"),
+    ("trait A {}\nfn f<T>()\nwhere\nu8: A { f::<T>(); }", 4, "u8"),
+    ("trait A {}\nstruct S<T>(T);\nfn f<T>()\nwhere T: A,\nS<u8>: A { f::<T>(); }", 5, "S < u8 >"),
+    ("trait A {}\nfn f<T>() where for<'a> &'a T: A { f::<T>(); }", 2, "for"),
+    ("trait A {}\nfn f<T>() { f::<T>(); }\nT: A?", 3, "T"),
+    ("trait A {}\nfn f<T>() { f::<T>(); }\nf::U: A?", 3, "U"),
+    ("trait A {}\nfn f<T>() {}\nf::T: A?", 3, "T"),
+    ("trait A {}\nfn f<T>() { f::<T>(); }\nf::T<u8>: A?", 3, "<"),
+    ("trait A {}\nfn f<T>() { f::<T>(); }\nimpl A for\nf::T {}", 4, ":: f"),
+    ("fn f<T>() {\n f::<T<u8>>(); }", 2, "T <"),
+    ("fn f<T>() {}\nfn main() {\n f::<u8>()\n f::<u8>() }", 4, "f"),
+    ("fn f<T>() {}\nfn main() {\n f::<u8>();\n ; }", 4, ";"),
     ("fn f<T>() {}\nfn main() {\n g::<u8>();\n}", 3, "g"),
     ("fn f<T>() {}\nfn main() {\n f::<u8, u8>();\n}", 3, "f :: < >"),
     ("fn f<T>() {}\nfn main() {\n f::<>();\n}", 3, "f :: < >"),
-    ("fn f<T>() {}\nfn main<U>() {\n f::<u8>();\n}", 3, "f"),
     ("async fn f() {}", 1, "async"),
     ("struct S<T>(T);\n\nstruct R(S);", 3, "S"),
     ("struct S<T>(T);\n\nstruct R(S<u8, u8>);", 3, "S < , >"),
@@ -290,6 +401,10 @@ def deep_texts():
     yield "a deep where-clause", f"{BASE}impl<T> B for (T,) where {generic}: B {{}}\n(u8,): B?"
     yield "a deep argument", f"{BASE}fn f<T: B>() {{}} fn main() {{ f::<{deep}>(); }}"
     yield "a deep bound", f"{BASE}fn f<T>() where {generic}: B {{}} fn main() {{ f::<u8>(); }}"
+    yield "a deep value", f"{BASE}fn f<T: B>(_: T) {{}} fn g(x: {deep}) {{ f(x); f(&x); }}"
+    yield "a deep value that fits", f"{BASE}fn f<T: B>(_: {generic}) {{}} fn g(x: {deep}) {{ f(x); }}"
+    yield "a deep assumption", f"{BASE}fn f<T: B>(_: T) {{}} fn g<T>(x: {generic}) where {generic}: A + B {{ f(x); }}"
+    yield "a deep reference", f"{BASE}fn f<T: A>(_: T) {{}} fn g(x: u8) {{ f({'&' * MANY}x); }}"
     yield "deep comments", "/*" * MANY + "*/" * MANY
     yield "deep comments without an end", "/*" * MANY
 
@@ -317,6 +432,15 @@ def long_texts():
     yield "many objects of many traits", f"{each('trait B{} {{}}', ' ')}\n{each('dyn B{0} + B7 + B8: B{0}?', ' ')}"
     yield "many questions", f"{BASE}{'L<u8>: A? ' * MANY}"
     yield "many calls", f"{BASE}fn f<T: A>() {{}} fn main() {{ {'f::<u8>(); ' * MANY} }}"
+    yield "many values", f"{BASE}fn f<T>({'_: T, ' * MANY}) {{}} fn g(x: u8) {{ f({'x, ' * MANY}); }}"
+    yield "many names of values", f"{BASE}fn f<T: A>(_: T) {{}} fn g({each('x{}: u8')}) {{ f(x7); }}"
+    yield "many values in a body", f"{BASE}fn f<T: A>(_: T) {{}} fn g() {{ {'let x: u8 = loop {}; ' * MANY}f(x); }}"
+    yield "many calls with values", f"{BASE}fn f<T: A>(_: T) {{}} fn g(x: u8) {{ {'f(x); ' * MANY} }}"
+    called = "fn f<T: B>() {}"
+    yield "many parameters in a body", f"{BASE}{called} fn g<{each('T{}: A + B')}>() {{ f::<T7>(); f::<(T8,)>(); }}"
+    yield "many bodies", f"{BASE}{called}{each('fn g{0}<T: B>() {{{{ f::<T>(); }}}}', ' ')}"
+    yield "many assumptions", f"{BASE}{called}fn g<T>() where {'L<T>: B, ' * MANY} {{ f::<L<T>>(); }}"
+    yield "many traits above what is assumed", f"trait B0 {{}} {above}\nfn f<T: B0>() {{}} fn g<T: B{MANY}>() {{ f::<T>(); }}"
     yield "a long name", f"struct {'a' * MANY * 10};\nauto trait A {{}}\n{'a' * MANY * 10}: A?"
     yield "a long lifetime", f"struct S<'{'a' * MANY * 10}>;"
     yield "a long number", f"{BASE}[u8; {'9' * MANY}]: A?"

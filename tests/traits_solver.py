@@ -62,6 +62,31 @@ class Impl(NamedTuple):
     needs: list
 
 
+class Environment(NamedTuple):
+    """The parameters of a function and its where-clauses, as texts, which hold where its body asks."""
+
+    parameters: str = ""
+    where: str = ""
+
+
+class Asked(NamedTuple):
+    """A question: a need, or a call of the function that a word names, with the types and the values that it is given."""
+
+    need: Need = None
+    token: "Token" = None
+    types: tuple = ()
+    values: tuple = ()
+    environment: Environment = Environment()
+
+
+class Function(NamedTuple):
+    """The parameters of a function, the types of its values, and what a call of it needs."""
+
+    parameters: list
+    values: list
+    needs: list
+
+
 class Trait(NamedTuple):
     """What is said of a trait."""
 
@@ -96,7 +121,7 @@ def pointee(type_):
 def show(type_):
     """The type as Rust writes it."""
     (kind, *detail), args = type_
-    if kind in ("type", "param"):
+    if kind in ("type", "param", "constant"):
         return detail[0] + (f"<{', '.join(map(show, args))}>" if args else "")
     if kind == "tuple":
         return f"({', '.join(map(show, args))}{',' if len(args) == 1 else ''})"
@@ -150,13 +175,23 @@ class Reader:
 
     def __init__(self):
         self.types, self.traits, self.impls, self.functions = {}, {}, [], {}
-        # Questions and calls in their order: a need, or a name with arguments.
-        self.asked, self.limit = [], DEFAULT_LIMIT
+        # Questions and calls in their order, and what holds of the parameters of functions in their bodies.
+        self.asked, self.assumed, self.limit = [], [], DEFAULT_LIMIT
+        # The parameters that are constants, and those that questions name, as the words for a function and for its parameter.
+        self.constants, self.constants_named = set(), []
         # What has to be declared, each with the number of its arguments.
         self.types_named, self.traits_named = [], []
-        # The places of questions and of functions that call, and of attributes of the whole.
-        self.questions_at, self.attributes_at = [], []
-        self.words, self.at, self.params, self.self_type = [], 0, {}, None
+        # The places of questions and of functions that call, of questions in the short form, of calls, and of attributes
+        # of the whole.
+        self.questions_at, self.short_at, self.calls_at, self.attributes_at = [], [], [], []
+        self.text, self.words, self.at, self.params, self.self_type = "", [], 0, {}, None
+        # What the parameters of a function are in its body, the types of the values that have a name there, and what it
+        # may assume.
+        self.of, self.values, self.environment = {}, {}, Environment()
+        # The parameters that may have no size, whether the last bounds say so, and the constants that have one.
+        self.without_size, self.is_relaxed, self.sized = set(), False, []
+        # The last words of types in where-clauses that name traits, with the types; and whether a question is read.
+        self.subjects, self.is_asking = [], False
         # Whether an attribute says that the trait is coinductive which follows.
         self.marked = False
 
@@ -255,11 +290,14 @@ class Reader:
 
     def path(self):
         token = self.name()
+        if self.is_asking and self.take("::"):
+            self.constants_named.append((token, self.name()))
+            return Type(("constant", self.constants_named[-1][1].text, token.text))
         args = self.arguments() if self.take("<") else ()
         if token.text in self.params:
             if args:
                 self.refuse("a parameter has no arguments", token)
-            return Type(("param", token.text))
+            return self.of.get(token.text, Type(("param", token.text)))
         if token.text not in PRIMITIVES:
             self.types_named.append((token, len(args)))
         elif args:
@@ -278,12 +316,13 @@ class Reader:
 
     def bounds(self, plus=True, questioned=False):
         """The traits that are named in bounds; lifetimes and `?Sized` say nothing."""
-        found = []
+        found, self.is_relaxed = [], False
         while True:
             if self.word.kind == "lifetime":
                 self.at += 1
             elif questioned and self.take("?"):
                 self.expect("Sized")
+                self.is_relaxed = True
             elif self.word.kind == "name" and self.word.text not in KEYWORDS:
                 token = self.name()
                 self.traits_named.append(token)
@@ -315,9 +354,14 @@ class Reader:
             needs_of = Type(("param", token.text))
             self.expect(":")
             needs += [Need(needs_of, trait) for trait in self.bounds(True, True)]
+            self.relax(needs_of)
             return
         if self.take(":"):
             self.lifetimes()
+
+    def relax(self, type_):
+        if self.is_relaxed and type_.head[0] == "param":
+            self.without_size.add(type_.head[1])
 
     def lifetimes(self):
         """Passes over the bounds of a lifetime."""
@@ -341,9 +385,12 @@ class Reader:
             self.expect(":")
             self.lifetimes()
             return
-        type_ = self.type_()
+        type_, last = self.type_(), self.words[self.at - 1]
         self.expect(":")
-        needs += [Need(type_, trait) for trait in self.bounds(True, True)]
+        traits = self.bounds(True, True)
+        self.relax(type_)
+        needs += [Need(type_, trait) for trait in traits]
+        self.subjects += [(last, type_)] if traits else []
 
     def visibility(self):
         if self.take("pub") and self.is_next("(") and self.is_next("crate", 1):
@@ -369,9 +416,10 @@ class Reader:
 
     def read(self, text, file):
         """Reads the items of a file."""
-        self.words, self.at = list(words_of(text, file)), 0
+        self.text, self.words, self.at = text, list(words_of(text, file)), 0
         while self.word.kind != "end" or self.marked:
-            self.params, self.self_type = {}, None
+            self.params, self.self_type, self.of, self.values, self.subjects = {}, None, {}, {}, []
+            self.environment, self.is_asking, self.without_size = Environment(), False, set()
             self.item()
 
     def item(self):
@@ -492,39 +540,109 @@ class Reader:
 
     def function(self, start):
         token = self.name()
+        first = self.word.start
         needs = self.parameters()
         params = list(self.params)
-        self.expect("(", ")")
+        middle = self.word.start
+        self.expect("(")
+        values, _ = self.list_until(")", self.value_of_function)
+        before = self.word.start
         needs += self.where_clauses()
+        environment = Environment(self.text[first:middle], self.text[before : self.word.start])
         self.expect("{")
         calls = len(self.asked)
+        if not self.is_next("}"):
+            self.begin_body(token, needs, values, environment)
         while not self.take("}"):
-            if params:
-                self.refuse("the body of a function with parameters is empty")
-            self.call()
+            self.statement()
         if len(self.asked) > calls:
             self.questions_at.append((start.file, start.start, self.words[self.at - 1].end))
-        self.declare(self.functions, token, (params, needs))
+        self.declare(self.functions, token, Function(params, [type_ for _, type_ in values], needs))
 
-    def call(self):
+    def pattern(self):
+        """The name that a value has, or `_`."""
+        if self.take("_"):
+            return "_"
+        self.take("mut")
+        return self.name().text
+
+    def value_of_function(self):
+        name = self.pattern()
+        if name != "_" and name in self.values:
+            self.refuse("a value of this name is there already", self.words[self.at - 1])
+        self.expect(":")
+        self.values[name] = self.type_()
+        return name, self.values[name]
+
+    def begin_body(self, token, needs, values, environment):
+        """In the body, the parameters are constants, of which all holds that the function needs."""
+        for last, type_ in self.subjects:
+            if not has_any_param(type_):
+                self.refuse("a where-clause without a parameter says nothing that a body may assume", last)
+        self.of = {name: Type(("constant", name, token.text)) for name in self.params}
+        self.constants |= {*self.of.values()}
+        self.sized += [type_ for name, type_ in self.of.items() if name not in self.without_size]
+        self.assumed += [Need(put(need.type, self.of), need.trait) for need in needs]
+        self.values = {name: put(type_, self.of) for name, type_ in values}
+        self.environment = environment
+
+    def statement(self):
+        start = self.word
+        if self.take("let"):
+            name = self.pattern()
+            self.expect(":")
+            self.values[name] = self.type_()
+            self.expect("=")
+            self.no_value()
+            self.expect(";")
+            return
         token = self.name()
-        args = ()
+        types, values = (), []
         if self.take("::"):
             self.expect("<")
-            args = self.arguments()
-        self.expect("(", ")", ";")
-        self.asked.append((token, args))
+            types = self.arguments()
+        self.expect("(")
+        values, _ = self.list_until(")", self.value)
+        # The last one may stand without it.
+        if not self.is_next("}"):
+            self.expect(";")
+        if token.text in self.values:
+            self.refuse("this is a value, and no function", token)
+        self.calls_at.append((start.file, start.start, self.words[self.at - 1].end, len(self.asked)))
+        self.asked.append(Asked(None, token, types, tuple(values), self.environment))
+
+    def no_value(self):
+        """What stands for a value of any type."""
+        if self.take("loop"):
+            self.expect("{", "}")
+            return
+        if self.name().text not in ("panic", "todo", "unimplemented", "unreachable"):
+            self.refuse("this value is not read", self.words[self.at - 1])
+        self.expect("!", "(", ")")
+
+    def value(self):
+        """A value, as the word that names it and its type."""
+        if self.take("&"):
+            kind = "&mut" if self.take("mut") else "&"
+            token, type_ = self.value()
+            return token, Type((kind,), (type_,))
+        token = self.name()
+        type_ = self.values.get(token.text) or self.refuse("no value has this name", token)
+        if type_ == NEVER:
+            self.refuse("of which type this value is where it is given rests on more", token)
+        return token, type_
 
     def question(self):
-        token = self.word
+        token, self.is_asking = self.word, True
         type_ = self.type_()
         self.expect(":")
         bounds = self.bounds()
         if not bounds or self.words[self.at - 1].text == "+":
             self.refuse("a trait is expected here")
-        self.asked += [(None, Need(type_, trait)) for trait in bounds]
+        self.asked += [Asked(Need(type_, trait)) for trait in bounds]
         self.expect("?")
         self.questions_at.append((token.file, token.start, self.words[self.at - 1].end))
+        self.short_at.append(self.questions_at[-1])
 
     # What can be said only once all is read.
 
@@ -537,24 +655,54 @@ class Reader:
         for token in self.traits_named:
             if token.text not in self.traits:
                 self.refuse("no trait has this name", token)
+        for function, token in self.constants_named:
+            if Type(("constant", token.text, function.text)) not in self.constants:
+                self.refuse("no function with a body has this parameter", token)
 
     def questions(self):
-        """The questions, each a need without parameters."""
-        for token, what in self.asked:
-            if token is None:
-                yield what
+        """The questions, each a need without parameters, with what asks it."""
+        for asked in self.asked:
+            if asked.need:
+                yield asked.need, asked
                 continue
+            token = asked.token
             if token.text not in self.functions:
                 self.refuse("no function has this name", token)
-            params, needs = self.functions[token.text]
-            if len(params) != len(what):
-                self.refuse(f"{len(params)} arguments are expected here", token)
-            of = dict(zip(params, what))
-            yield from (Need(put(need.type, of), need.trait) for need in needs)
+            function = self.functions[token.text]
+            of = self.given(function, asked)
+            yield from ((Need(put(need.type, of), need.trait), asked) for need in function.needs)
+
+    def given(self, function, asked):
+        """What the parameters of a function stand for where it is called. Values have to be of just the types that it takes."""
+        token = asked.token
+        if asked.types and len(asked.types) != len(function.parameters):
+            self.refuse(f"{len(function.parameters)} arguments are expected here", token)
+        if len(asked.values) != len(function.values):
+            self.refuse(f"{len(function.values)} values are expected here", token)
+        of = dict(zip(function.parameters, asked.types))
+        for (word, type_), pattern in zip(asked.values, function.values):
+            if not instantiate(pattern, type_, of):
+                self.refuse("another type is expected here", word)
+        if len(of) < len(function.parameters):
+            self.refuse("what a parameter stands for is not said", token)
+        return of
+
+
+def instantiate(pattern, type_, of):
+    """Whether the type is an instance of the pattern, by what its parameters stand for, of which more are known then."""
+    if pattern.head[0] == "param":
+        return of.setdefault(pattern.head[1], type_) == type_
+    if pattern.head != type_.head or len(pattern.args) != len(type_.args):
+        return False
+    return all(instantiate(part, arg, of) for part, arg in zip(pattern.args, type_.args))
 
 
 def has_param(type_, name):
     return type_ == Type(("param", name)) or any(has_param(each, name) for each in type_.args)
+
+
+def has_any_param(type_):
+    return type_.head[0] == "param" or any(map(has_any_param, type_.args))
 
 
 def put(type_, of):
@@ -573,7 +721,11 @@ class Program:
         for file, text in texts:
             reader.read(text, file)
         reader.check()
-        self.questions = list(reader.questions())
+        asked = list(reader.questions())
+        self.questions = [need for need, _ in asked]
+        # What asks each of them, with where the functions that call stand, and what they call.
+        self.asked_by, self.calls_at, self.short_at = [by for _, by in asked], reader.calls_at, reader.short_at
+        self.calls = reader.asked
         self.types, self.traits, self.limit = reader.types, reader.traits, reader.limit
         self.questions_at, self.attributes_at = reader.questions_at, reader.attributes_at
         self.impls = {}
@@ -581,6 +733,8 @@ class Program:
             self.impls.setdefault(trait, []).append(impl)
         # The head of each type, with the numbers of its parts, and the number of each.
         self.rows, self.numbers = [], {}
+        assumed = reader.assumed + [Need(type_, "Sized") for type_ in reader.sized if "Sized" in self.traits]
+        self.assumed = {(above, self.number(need.type)) for need in assumed for above in self.named_by([need.trait])}
 
     def number(self, type_, of=None):
         """The number of a type, with the numbers of those in the places of its parameters."""
@@ -632,9 +786,10 @@ class Program:
             of = {}
             if impl.positive and self.fits(impl.head, number, of):
                 found.append([(need.trait, self.number(need.type, of)) for need in impl.needs])
+        found += [[]] if goal in self.assumed else []
         if head[0] == "dyn":
             found += [[]] if trait in self.named_by(head[1]) else []
-        elif self.traits[trait].auto and not has_impl:
+        elif head[0] != "constant" and self.traits[trait].auto and not has_impl:
             found.append([(trait, field) for field in self.fields(number)])
         return found
 

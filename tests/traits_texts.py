@@ -76,8 +76,8 @@ class Declarations:
         kinds = ("plain", "plain", "marked", "auto")
         self.traits = {f"A{number}": chance.choice(kinds) for number in range(chance.randint(1, most_traits))}
         self.all_types = {**self.types, **OF_STD} if for_rustc else self.types
-        # The items, and for which heads there is an impl of which trait.
-        self.lines, self.heads = [], []
+        # The items, for which heads there is an impl of which trait, and the parameters that questions may be about.
+        self.lines, self.heads, self.scope = [], [], ()
 
     # Types.
 
@@ -255,15 +255,29 @@ class Declarations:
             return self.instance(head, {}), trait if roll < 0.5 else self.chance.choice(list(self.traits))
         if roll < 0.7 and not self.for_rustc:
             return self.dyn(), trait
-        return self.any_type((), self.chance.choice((1, 1, 2, 2, 3))), trait
+        return self.any_type(self.scope, self.chance.choice((1, 1, 2, 2, 3))), trait
 
     def instance(self, head, of):
         """A type that the head fits, or nearly so."""
         if head.head[0] == "param":
             if head.head[1] not in of or self.chance.random() < 0.2:
-                of[head.head[1]] = self.any_type((), self.chance.choice((0, 0, 1, 2)))
+                of[head.head[1]] = self.any_type(self.scope, self.chance.choice((0, 0, 1, 2)))
             return of[head.head[1]]
         return Type(head.head, tuple(self.instance(each, of) for each in head.args))
+
+    def in_body(self, questions):
+        """The parameters of a function and its where-clauses, as texts, and questions about the parameters."""
+        chance, traits = self.chance, list(self.traits)
+        self.scope = ["T", "U"][: chance.choice((1, 1, 2))]
+        bounds = {each: chance.choices(traits, k=chance.choice((0, 0, 1, 1, 2))) for each in self.scope}
+        parameters = ", ".join(f"{each}: {' + '.join(found)}" if found else each for each, found in bounds.items())
+        clauses = [(self.question()[0], chance.choice(traits)) for _ in range(chance.choice((0, 1, 1, 2)))]
+        # Without a parameter a clause is refused, and in rustc a reference has to have a lifetime there.
+        right = lambda type_: params_of(type_) and not (self.for_rustc and "&" in show(type_))
+        where = ", ".join(f"{show(type_)}: {trait}" for type_, trait in clauses if right(type_))
+        asked = [self.question() for _ in range(questions)]
+        self.scope = ()
+        return f"<{parameters}>", f"where {where}" if where else "", asked
 
 
 def rules(chance, for_rustc=False):

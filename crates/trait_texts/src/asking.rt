@@ -1,5 +1,6 @@
 //! What is asked once all is read.
 
+use crate::calls::{Call, Function, arguments_of, takes_all};
 use crate::declarations::Question;
 use crate::draft::Draft;
 use crate::lexicon::{Lexicon, Word};
@@ -7,18 +8,11 @@ use crate::program::Program;
 use crate::refusal::{Problem, Stop, push};
 use std::alloc::Global;
 
-/// A function: how many types it takes, and what a call of it asks.
-#[derive(Drop)]
-struct Function {
-    arguments: usize,
-    draft: Draft,
-}
-
-// A question, or a call of the function that a word names.
+// A question, or a call of a function.
 #[derive(Drop)]
 enum Pending {
     Question(Question),
-    Call(Word, Vec<usize>),
+    Call(Call),
 }
 
 /// Functions, and questions and calls in the order of the text.
@@ -38,9 +32,9 @@ impl Asking {
     }
 
     /// One more function, whose number is returned.
-    pub(crate) fn add_function(&mut self, arguments: usize, draft: Draft) -> Result<usize, Stop> {
+    pub(crate) fn add_function(&mut self, function: Function) -> Result<usize, Stop> {
         let number = self.functions.len();
-        push(&mut self.functions, Function { arguments, draft })?;
+        push(&mut self.functions, function)?;
         Ok(number)
     }
 
@@ -56,9 +50,9 @@ impl Asking {
         Ok(())
     }
 
-    /// The function that the word names is called with these types.
-    pub(crate) fn call(&mut self, word: Word, arguments: Vec<usize>) -> Result<(), Stop> {
-        push(&mut self.pending, Pending::Call(word, arguments))?;
+    /// A function is called.
+    pub(crate) fn call(&mut self, call: Call) -> Result<(), Stop> {
+        push(&mut self.pending, Pending::Call(call))?;
         Ok(())
     }
 
@@ -72,24 +66,38 @@ impl Asking {
         for pending in self.pending.iter() {
             match pending {
                 Pending::Question(question) => program.ask(*question)?,
-                Pending::Call(word, arguments) => {
-                    let function = self.function(lexicon, *word, arguments.len())?;
-                    program.ask_all(alloc, &function.draft, arguments.as_slice())?;
-                }
+                Pending::Call(call) => self.ask_call(alloc, lexicon, program, call)?,
             }
         }
         Ok(())
     }
 
-    // The function that the word names, which has to take so many types.
-    fn function(&self, lexicon: &Lexicon, word: Word, count: usize) -> Result<&Function, Stop> {
+    // Asks what the call does.
+    fn ask_call(
+        &self,
+        alloc: Global,
+        lexicon: &Lexicon,
+        program: &mut Program,
+        call: &Call,
+    ) -> Result<(), Stop> {
+        let function = self.function(lexicon, call.word)?;
+        let arguments = arguments_of(alloc, &*program, function, call)?;
+        let shapes = function.draft.shapes();
+        let types = program.types_of(alloc, shapes, arguments.as_slice())?;
+        takes_all(
+            function.values.as_slice(),
+            call.given.as_slice(),
+            types.as_slice(),
+        )?;
+        program.ask_all(function.draft.clauses(), types.as_slice())?;
+        Ok(())
+    }
+
+    // The function that the word names.
+    fn function(&self, lexicon: &Lexicon, word: Word) -> Result<&Function, Stop> {
         let Some(number) = lexicon.meaning(word.name).function else {
             return Err(Stop::Refused(word.place, Problem::UnknownFunction));
         };
-        let function = self.functions.get(number).ok_or(Stop::Memory)?;
-        if function.arguments != count {
-            return Err(Stop::Refused(word.place, Problem::Arguments(function.arguments)));
-        }
-        Ok(function)
+        self.functions.get(number).ok_or(Stop::Memory)
     }
 }

@@ -41,6 +41,14 @@ impl Draft {
         Ok(draft)
     }
 
+    /// The same shapes, and no clause.
+    pub(crate) fn copied(&self, alloc: Global) -> Result<Draft, NoMemory> {
+        Ok(Draft {
+            shapes: Vec::from_slice(alloc, self.shapes.as_slice())?,
+            clauses: Vec::new(alloc),
+        })
+    }
+
     /// The shapes.
     pub(crate) fn shapes(&self) -> &[Shape]
         ensures shapes { result.now ≡ self.now.shapes }

@@ -1,12 +1,13 @@
 //! Constructors, by their forms.
 
 use crate::draft::Draft;
+use crate::lexicon::Word;
 use crate::names::PRIMITIVES;
 use crate::program::Program;
-use crate::refusal::{Stop, push};
+use crate::refusal::{Problem, Stop, push};
 use crate::spelling::Form;
 use std::alloc::Global;
-use trait_rules::{Bound, Made, Numbered};
+use trait_rules::{Bound, Made, Numbered, Shape};
 
 /// The forms of the constructors, and the sets of traits that are in forms.
 #[derive(Drop)]
@@ -14,14 +15,20 @@ pub(crate) struct Forms {
     pub(crate) forms: Numbered<Form>,
     /// A set is a trait, or another set with one trait more.
     pub(crate) sets: Numbered<Made>,
-    /// The constructors of `dyn` types.
-    pub(crate) objects: Vec<Object>,
+    /// What holds of `dyn` types, and what bodies assume.
+    pub(crate) facts: Vec<Fact>,
+    // The parameters of functions in their bodies, by their constructors, and those that questions name, with the place.
+    constants: Vec<usize>,
+    named: Vec<(usize, usize)>,
+    // The constructors of types that may have no size.
+    unsized_ones: Vec<usize>,
 }
 
-/// A `dyn` type, by its constructor and the traits that it names.
+/// Types that implement traits, whatever impls say: those of the shape `head` of the draft.
 #[derive(Drop)]
-pub(crate) struct Object {
-    pub(crate) constructor: usize,
+pub(crate) struct Fact {
+    pub(crate) draft: Draft,
+    pub(crate) head: usize,
     pub(crate) traits: Vec<usize>,
 }
 
@@ -31,7 +38,10 @@ impl Forms {
         Forms {
             forms: Numbered::new(alloc),
             sets: Numbered::new(alloc),
-            objects: Vec::new(alloc),
+            facts: Vec::new(alloc),
+            constants: Vec::new(alloc),
+            named: Vec::new(alloc),
+            unsized_ones: Vec::new(alloc),
         }
     }
 
@@ -47,7 +57,7 @@ impl Forms {
         if number == count {
             program.add_constructor(alloc)?;
             match form {
-                Form::Dyn(_) => {}
+                Form::Dyn(_) | Form::Constant(_, _) => {}
                 Form::Path(name) if name >= PRIMITIVES.len() => {}
                 _ => enter_fields(alloc, program, number, form)?,
             }
@@ -68,13 +78,97 @@ impl Forms {
         let count = self.forms.len();
         let constructor = self.constructor(alloc, program, Form::Dyn(set))?;
         if constructor == count {
-            let object = Object {
-                constructor,
-                traits,
-            };
-            push(&mut self.objects, object)?;
+            let mut draft = Draft::new(alloc);
+            let head = draft.constructor(constructor)?;
+            self.hold(draft, head, traits)?;
         }
         Ok(constructor)
+    }
+
+    /// Types of the shape `head` implement these traits.
+    pub(crate) fn hold(
+        &mut self,
+        draft: Draft,
+        head: usize,
+        traits: Vec<usize>,
+    ) -> Result<(), Stop> {
+        push(
+            &mut self.facts,
+            Fact {
+                draft,
+                head,
+                traits,
+            },
+        )?;
+        Ok(())
+    }
+
+    /// The constructor of a parameter of a function in its body.
+    pub(crate) fn declare_constant(
+        &mut self,
+        alloc: Global,
+        program: &mut Program,
+        function: usize,
+        name: usize,
+    ) -> Result<usize, Stop> {
+        let constructor = self.constructor(alloc, program, Form::Constant(function, name))?;
+        push(&mut self.constants, constructor)?;
+        Ok(constructor)
+    }
+
+    /// The same where a question names it, whose name stands at this place.
+    pub(crate) fn name_constant(
+        &mut self,
+        alloc: Global,
+        program: &mut Program,
+        function: usize,
+        word: Word,
+    ) -> Result<usize, Stop> {
+        let constructor = self.constructor(alloc, program, Form::Constant(function, word.name))?;
+        push(&mut self.named, (word.place, constructor))?;
+        Ok(constructor)
+    }
+
+    /// Whether a parameter of a function stands in its body among these shapes.
+    pub(crate) fn has_constant(&self, shapes: &[Shape]) -> bool {
+        for shape in shapes {
+            if let Shape::Constructor(constructor) = shape
+                && let Some(Form::Constant(_, _)) = self.forms.get(*constructor)
+            {
+                return true;
+            }
+        }
+        false
+    }
+
+    /// Types of the constructor may have no size, if it is a parameter.
+    pub(crate) fn relax(&mut self, constructor: usize) -> Result<(), Stop> {
+        push(&mut self.unsized_ones, constructor)?;
+        Ok(())
+    }
+
+    /// The parameters that have a size implement this trait.
+    pub(crate) fn hold_sized(&mut self, alloc: Global, bound: usize) -> Result<(), Stop> {
+        let mut is_sized = vec![in alloc; true; self.forms.len()]?;
+        for constructor in self.unsized_ones.iter() {
+            if let Some(mark) = is_sized.get_mut(*constructor) {
+                *mark = false;
+            }
+        }
+        let constants = self.constants.as_slice();
+        let is_sized = is_sized.as_slice();
+        add_sized(alloc, &mut self.facts, constants, is_sized, bound)
+    }
+
+    /// Whether there are all parameters that questions name.
+    pub(crate) fn check(&self, alloc: Global) -> Result<(), Stop> {
+        let mut is_declared = vec![in alloc; false; self.forms.len()]?;
+        for constructor in self.constants.iter() {
+            if let Some(mark) = is_declared.get_mut(*constructor) {
+                *mark = true;
+            }
+        }
+        check_named(self.named.as_slice(), is_declared.as_slice())
     }
 
     // The number of the set of these traits.
@@ -91,6 +185,42 @@ impl Forms {
     }
 }
 
+// Adds for each of the constructors that is marked that it implements the trait.
+fn add_sized(
+    alloc: Global,
+    facts: &mut Vec<Fact>,
+    constructors: &[usize],
+    is_sized: &[bool],
+    bound: usize,
+) -> Result<(), Stop> {
+    for constructor in constructors {
+        if is_sized.get(*constructor).copied().unwrap_or(false) {
+            let mut draft = Draft::new(alloc);
+            let head = draft.constructor(*constructor)?;
+            let traits = Vec::from_slice(alloc, &[bound])?;
+            push(
+                facts,
+                Fact {
+                    draft,
+                    head,
+                    traits,
+                },
+            )?;
+        }
+    }
+    Ok(())
+}
+
+// Whether all constructors that are named, each with its place, are declared.
+fn check_named(named: &[(usize, usize)], is_declared: &[bool]) -> Result<(), Stop> {
+    for (place, constructor) in named {
+        if !is_declared.get(*constructor).copied().unwrap_or(false) {
+            return Err(Stop::Refused(*place, Problem::UnknownParameter));
+        }
+    }
+    Ok(())
+}
+
 // The rule by fields of a constructor whose name is built in, or which has none.
 fn enter_fields(
     alloc: Global,
@@ -99,7 +229,7 @@ fn enter_fields(
     form: Form,
 ) -> Result<(), Stop> {
     let (arguments, fields) = match form {
-        Form::Path(_) | Form::Dyn(_) => (0, 0),
+        Form::Path(_) | Form::Dyn(_) | Form::Constant(_, _) => (0, 0),
         Form::Tuple(count) => (count, count),
         Form::Function(count) => (count.saturating_add(1), 0),
         _ => (1, 1),

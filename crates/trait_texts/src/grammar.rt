@@ -1,6 +1,7 @@
-//! What each part of a text may be.
+//! What each part of a text may be: items and questions.
 
-use crate::refusal::Problem::{Attribute as NoAttribute, NoItem, NoTrait, NoType};
+use crate::bound_grammar::bound_rows;
+use crate::refusal::Problem::{Attribute as NoAttribute, NoItem, NoValue};
 use crate::spelling::Form;
 use crate::step::Doing::*;
 use crate::step::Making::*;
@@ -28,17 +29,17 @@ const ITEMS: &[Row] = &[
     (Else, &[Go(Item), Go(Items)]),
 ];
 
-const QUESTION: &[Row] = &[(Else, &[Do(BeginItem), Go(Type), Go(Asking)])];
+const QUESTION: &[Row] = &[(Else, &[Do(BeginQuestion), Go(Type), Go(Asking)])];
 
 const ASKING: &[Row] = &[(Else, &[Word(":"), Go(Asked), Do(Ask), Word("?")])];
 // `auto` may be a type's name, too, and `fn` may begin a type.
 const AFTER_AUTO: &[Row] = &[
     (At("trait"), &[Go(AutoTrait)]),
-    (Else, &[Do(BeginItem), Go(Path), Go(Asking)]),
+    (Else, &[Do(BeginQuestion), Go(Path), Go(Asking)]),
 ];
 
 const AFTER_FN: &[Row] = &[
-    (At("("), &[Do(BeginItem), Go(FunctionType), Go(Asking)]),
+    (At("("), &[Do(BeginQuestion), Go(FunctionType), Go(Asking)]),
     (Else, &[Go(Function)]),
 ];
 
@@ -257,7 +258,7 @@ const VARIANT_FIELDS: &[Row] = &[
 
 const VARIANTS_NEXT: &[Row] = &[(At(","), &[Pass, Go(Variants)]), (Else, &[Word("}")])];
 
-// Functions.
+// Functions. If there is something in the body, the signature is read once more: there its parameters are types of their own.
 
 const FUNCTION: &[Row] = &[(
     Else,
@@ -265,18 +266,51 @@ const FUNCTION: &[Row] = &[(
         Do(BeginItem),
         Name,
         Do(NameItem),
-        Go(Parameters),
-        Word("("),
-        Word(")"),
-        Go(Where),
+        Mark,
+        Go(Signature),
         Do(EndSignature),
-        Word("{"),
         Go(Body),
     ],
 )];
 
+const SIGNATURE: &[Row] = &[(
+    Else,
+    &[Go(Parameters), Word("("), Go(Values), Go(Where), Word("{")],
+)];
+
+const VALUES: &[Row] = &[(At(")"), &[Pass]), (Else, &[Go(Declared), Go(ValuesNext)])];
+
+const VALUES_NEXT: &[Row] = &[(At(","), &[Pass, Go(Values)]), (Else, &[Word(")")])];
+
+const DECLARED: &[Row] = &[(
+    Else,
+    &[Go(Pattern), Make(Begin), Word(":"), Go(Type), Do(Value)],
+)];
+
+const PATTERN: &[Row] = &[
+    (At("_"), &[Pass]),
+    (At("mut"), &[Pass, Name]),
+    (Else, &[Name]),
+];
+
 const BODY: &[Row] = &[
     (At("}"), &[Pass]),
+    (Else, &[Back, Do(BeginBody), Go(Signature), Go(Statements)]),
+];
+
+const STATEMENTS: &[Row] = &[
+    (At("}"), &[Pass]),
+    (
+        At("let"),
+        &[
+            Pass,
+            Go(Declared),
+            Word("="),
+            Go(Never),
+            Word(";"),
+            Go(Statements),
+        ],
+    ),
     (
         Else,
         &[
@@ -284,196 +318,47 @@ const BODY: &[Row] = &[
             Do(BeginCall),
             Go(CallArguments),
             Word("("),
-            Word(")"),
+            Go(Given),
             Do(EndCall),
-            Word(";"),
-            Go(Body),
+            Go(CallNext),
         ],
     ),
 ];
+// The last call may stand without `;`.
+const CALL_NEXT: &[Row] = &[(At(";"), &[Pass, Go(Statements)]), (Else, &[Word("}")])];
+// What has any type, since it never comes to a value.
+const NEVER: &[Row] = &[
+    (At("loop"), &[Pass, Word("{"), Word("}")]),
+    (At("panic"), &[Pass, Go(Stopping)]),
+    (At("todo"), &[Pass, Go(Stopping)]),
+    (At("unimplemented"), &[Pass, Go(Stopping)]),
+    (At("unreachable"), &[Pass, Go(Stopping)]),
+    (Else, &[Refuse(NoValue)]),
+];
+
+const STOPPING: &[Row] = &[(Else, &[Word("!"), Word("("), Word(")")])];
 
 const CALL_ARGUMENTS: &[Row] = &[
     (At("::"), &[Pass, Word("<"), Go(ArgumentList)]),
     (Else, &[]),
 ];
 
-// Parameters, where-clauses and bounds.
+const GIVEN: &[Row] = &[(At(")"), &[Pass]), (Else, &[Go(GivenValue), Go(GivenNext)])];
 
-const PARAMETERS: &[Row] = &[(At("<"), &[Pass, Go(ParameterList)]), (Else, &[])];
+const GIVEN_NEXT: &[Row] = &[(At(","), &[Pass, Go(Given)]), (Else, &[Word(")")])];
 
-const PARAMETER_LIST: &[Row] = &[
-    (At(">"), &[Pass]),
-    (AtLifetime, &[Pass, Go(LifetimeBounds), Go(ParametersNext)]),
-    (
-        Else,
-        &[Name, Do(Parameter), Go(ParameterBounds), Go(ParametersNext)],
-    ),
+const GIVEN_VALUE: &[Row] = &[
+    (At("&"), &[Pass, Go(GivenReference)]),
+    (Else, &[Name, Do(Give)]),
 ];
 
-const PARAMETERS_NEXT: &[Row] = &[(At(","), &[Pass, Go(ParameterList)]), (Else, &[Word(">")])];
-
-const PARAMETER_BOUNDS: &[Row] = &[(At(":"), &[Pass, Go(Bounds), Do(EndBounds)]), (Else, &[])];
-
-const LIFETIME_BOUNDS: &[Row] = &[(At(":"), &[Pass, Go(Outlives)]), (Else, &[])];
-
-const OUTLIVES: &[Row] = &[(AtLifetime, &[Pass, Go(OutlivesNext)]), (Else, &[])];
-
-const OUTLIVES_NEXT: &[Row] = &[(At("+"), &[Pass, Go(Outlives)]), (Else, &[])];
-
-const WHERE: &[Row] = &[(At("where"), &[Pass, Go(WhereList)]), (Else, &[])];
-
-const WHERE_LIST: &[Row] = &[
-    (At("{"), &[]),
-    (At(";"), &[]),
-    (AtEnd, &[]),
-    (AtLifetime, &[Pass, Word(":"), Go(Outlives), Go(WhereNext)]),
-    (
-        Else,
-        &[
-            Go(Type),
-            Do(Subject),
-            Word(":"),
-            Go(Bounds),
-            Do(EndBounds),
-            Go(WhereNext),
-        ],
-    ),
-];
-
-const WHERE_NEXT: &[Row] = &[(At(","), &[Pass, Go(WhereList)]), (Else, &[])];
-// Bounds of parameters, of types in where-clauses and of traits. There may be none, and `+` may end them.
-const BOUNDS: &[Row] = &[
-    (AtLifetime, &[Pass, Go(BoundsNext)]),
-    (At("?"), &[Pass, Word("Sized"), Go(BoundsNext)]),
-    (AtName, &[Pass, Make(Bound), Go(BoundsNext)]),
-    (Else, &[]),
-];
-
-const BOUNDS_NEXT: &[Row] = &[(At("+"), &[Pass, Go(Bounds)]), (Else, &[])];
-// What `dyn` types name, several or one.
-const NAMED: &[Row] = &[
-    (AtLifetime, &[Pass, Go(NamedNext)]),
-    (AtName, &[Pass, Make(Bound), Go(NamedNext)]),
-    (Else, &[]),
-];
-
-const NAMED_NEXT: &[Row] = &[(At("+"), &[Pass, Go(Named)]), (Else, &[])];
-
-const ONE_NAMED: &[Row] = &[
-    (AtLifetime, &[Pass]),
-    (AtName, &[Pass, Make(Bound)]),
-    (Else, &[]),
-];
-// What questions ask.
-const ASKED: &[Row] = &[
-    (AtLifetime, &[Pass, Go(AskedNext)]),
-    (AtName, &[Pass, Make(Bound), Go(AskedNext)]),
-    (Else, &[Refuse(NoTrait)]),
-];
-
-const ASKED_NEXT: &[Row] = &[(At("+"), &[Pass, Go(Asked)]), (Else, &[])];
-
-// Types. Behind a mark a type is narrow: it takes no `+`.
-
-const TYPE: &[Row] = &[
-    (At("dyn"), &[Pass, Go(Named), Make(Dyn)]),
-    (Else, &[Go(PlainType)]),
-];
-
-const NARROW_TYPE: &[Row] = &[
-    (At("dyn"), &[Pass, Go(OneNamed), Make(Dyn)]),
-    (Else, &[Go(PlainType)]),
-];
-
-const PLAIN_TYPE: &[Row] = &[
-    (AtName, &[Pass, Go(Path)]),
-    (At("("), &[Pass, Make(Begin), Go(Parentheses)]),
-    (At("["), &[Pass, Make(Begin), Go(Type), Go(Brackets)]),
-    (At("&"), &[Pass, Make(Begin), Go(Reference)]),
-    (At("*"), &[Pass, Make(Begin), Go(Pointer)]),
-    (At("!"), &[Pass, Make(Begin), Make(EndPath)]),
-    (At("fn"), &[Pass, Go(FunctionType)]),
-    (At("Self"), &[Pass, Make(Own)]),
-    (Else, &[Refuse(NoType)]),
-];
-// A type in parentheses, if no comma follows it, and else a tuple.
-const PARENTHESES: &[Row] = &[
-    (At(")"), &[Pass, Make(EndTuple)]),
-    (Else, &[Go(Type), Go(ParenthesesNext)]),
-];
-
-const PARENTHESES_NEXT: &[Row] = &[
-    (At(")"), &[Pass, Make(EndParentheses)]),
-    (Else, &[Word(","), Go(Tuple)]),
-];
-
-const TUPLE: &[Row] = &[
-    (At(")"), &[Pass, Make(EndTuple)]),
-    (Else, &[Go(Type), Go(TupleNext)]),
-];
-
-const TUPLE_NEXT: &[Row] = &[
-    (At(","), &[Pass, Go(Tuple)]),
-    (Else, &[Word(")"), Make(EndTuple)]),
-];
-
-const BRACKETS: &[Row] = &[
-    (At("]"), &[Pass, Make(End(Form::Slice))]),
-    (Else, &[Word(";"), Number, Make(EndArray), Word("]")]),
-];
-
-const REFERENCE: &[Row] = &[(AtLifetime, &[Pass, Go(Referent)]), (Else, &[Go(Referent)])];
-
-const REFERENT: &[Row] = &[
+const GIVEN_REFERENCE: &[Row] = &[
     (
         At("mut"),
-        &[Pass, Go(NarrowType), Make(End(Form::MutableReference))],
+        &[Pass, Go(GivenValue), Do(Refer(Form::MutableReference))],
     ),
-    (Else, &[Go(NarrowType), Make(End(Form::Reference))]),
+    (Else, &[Go(GivenValue), Do(Refer(Form::Reference))]),
 ];
-
-const POINTER: &[Row] = &[
-    (
-        At("const"),
-        &[Pass, Go(NarrowType), Make(End(Form::ConstantPointer))],
-    ),
-    (
-        Else,
-        &[Word("mut"), Go(NarrowType), Make(End(Form::MutablePointer))],
-    ),
-];
-
-const FUNCTION_TYPE: &[Row] = &[(Else, &[Word("("), Make(Begin), Go(FunctionParts)])];
-
-const FUNCTION_PARTS: &[Row] = &[
-    (At(")"), &[Pass, Go(FunctionResult)]),
-    (Else, &[Go(Type), Go(FunctionNext)]),
-];
-
-const FUNCTION_NEXT: &[Row] = &[
-    (At(","), &[Pass, Go(FunctionParts)]),
-    (Else, &[Word(")"), Go(FunctionResult)]),
-];
-
-const FUNCTION_RESULT: &[Row] = &[
-    (At("->"), &[Pass, Go(NarrowType), Make(EndFunction)]),
-    (Else, &[Make(Begin), Make(EndTuple), Make(EndFunction)]),
-];
-
-const PATH: &[Row] = &[(Else, &[Make(Begin), Go(Arguments)])];
-
-const ARGUMENTS: &[Row] = &[
-    (At("<"), &[Pass, Go(ArgumentList), Make(EndPath)]),
-    (Else, &[Make(EndPath)]),
-];
-
-const ARGUMENT_LIST: &[Row] = &[
-    (At(">"), &[Pass]),
-    (AtLifetime, &[Pass, Go(ArgumentsNext)]),
-    (Else, &[Go(Type), Go(ArgumentsNext)]),
-];
-
-const ARGUMENTS_NEXT: &[Row] = &[(At(","), &[Pass, Go(ArgumentList)]), (Else, &[Word(">")])];
 
 /// What the part may be.
 pub(crate) fn rows_of(part: Part) -> &'static [Row] {
@@ -527,55 +412,25 @@ fn item_rows(part: Part) -> &'static [Row] {
     }
 }
 
-// The same of parts of functions, and of lists of parameters.
+// The same of parts of functions.
 fn function_rows(part: Part) -> &'static [Row] {
     match part {
         Part::Function => FUNCTION,
+        Part::Signature => SIGNATURE,
+        Part::Values => VALUES,
+        Part::ValuesNext => VALUES_NEXT,
+        Part::Declared => DECLARED,
+        Part::Pattern => PATTERN,
         Part::Body => BODY,
+        Part::Statements => STATEMENTS,
+        Part::Never => NEVER,
+        Part::Stopping => STOPPING,
+        Part::CallNext => CALL_NEXT,
         Part::CallArguments => CALL_ARGUMENTS,
-        Part::Parameters => PARAMETERS,
-        Part::ParameterList => PARAMETER_LIST,
-        Part::ParametersNext => PARAMETERS_NEXT,
-        Part::ParameterBounds => PARAMETER_BOUNDS,
-        Part::LifetimeBounds => LIFETIME_BOUNDS,
-        Part::Outlives => OUTLIVES,
-        Part::OutlivesNext => OUTLIVES_NEXT,
-        Part::Where => WHERE,
-        Part::WhereList => WHERE_LIST,
-        Part::WhereNext => WHERE_NEXT,
-        other => type_rows(other),
-    }
-}
-
-// The same of bounds and types.
-fn type_rows(part: Part) -> &'static [Row] {
-    match part {
-        Part::Bounds => BOUNDS,
-        Part::BoundsNext => BOUNDS_NEXT,
-        Part::Named => NAMED,
-        Part::NamedNext => NAMED_NEXT,
-        Part::OneNamed => ONE_NAMED,
-        Part::Asked => ASKED,
-        Part::AskedNext => ASKED_NEXT,
-        Part::Type => TYPE,
-        Part::NarrowType => NARROW_TYPE,
-        Part::PlainType => PLAIN_TYPE,
-        Part::Parentheses => PARENTHESES,
-        Part::ParenthesesNext => PARENTHESES_NEXT,
-        Part::Tuple => TUPLE,
-        Part::TupleNext => TUPLE_NEXT,
-        Part::Brackets => BRACKETS,
-        Part::Reference => REFERENCE,
-        Part::Referent => REFERENT,
-        Part::Pointer => POINTER,
-        Part::FunctionType => FUNCTION_TYPE,
-        Part::FunctionParts => FUNCTION_PARTS,
-        Part::FunctionNext => FUNCTION_NEXT,
-        Part::FunctionResult => FUNCTION_RESULT,
-        Part::Path => PATH,
-        Part::Arguments => ARGUMENTS,
-        Part::ArgumentList => ARGUMENT_LIST,
-        Part::ArgumentsNext => ARGUMENTS_NEXT,
-        _ => &[],
+        Part::Given => GIVEN,
+        Part::GivenNext => GIVEN_NEXT,
+        Part::GivenValue => GIVEN_VALUE,
+        Part::GivenReference => GIVEN_REFERENCE,
+        other => bound_rows(other),
     }
 }

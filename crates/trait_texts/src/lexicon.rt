@@ -11,6 +11,15 @@ pub(crate) struct Word {
     pub(crate) place: usize,
 }
 
+/// What a parameter is.
+#[derive(Clone, Copy)]
+pub(crate) enum Parameter {
+    /// A shape of the item.
+    Shape(usize),
+    /// A constructor without arguments, in the body of a function.
+    Constant(usize),
+}
+
 /// What is known of a name.
 #[derive(Clone, Copy)]
 pub(crate) struct Meaning {
@@ -20,8 +29,10 @@ pub(crate) struct Meaning {
     pub(crate) bound: Option<usize>,
     /// The number of the function of this name.
     pub(crate) function: Option<usize>,
-    /// The shape of the item's parameter of this name.
-    pub(crate) parameter: Option<usize>,
+    /// The item's parameter of this name.
+    pub(crate) parameter: Option<Parameter>,
+    /// The type of the value of this name.
+    pub(crate) value: Option<usize>,
 }
 
 const NOTHING: Meaning = Meaning {
@@ -29,6 +40,7 @@ const NOTHING: Meaning = Meaning {
     bound: None,
     function: None,
     parameter: None,
+    value: None,
 };
 
 const BUILT_IN: Meaning = Meaning {
@@ -36,6 +48,7 @@ const BUILT_IN: Meaning = Meaning {
     bound: None,
     function: None,
     parameter: None,
+    value: None,
 };
 
 /// What is known of a trait.
@@ -61,6 +74,8 @@ pub(crate) struct Lexicon {
     meanings: Vec<Meaning>,
     traits: Vec<Heading>,
     uses: Vec<Use>,
+    // The names that mean parameters and values of the item.
+    locals: Vec<usize>,
 }
 
 impl Lexicon {
@@ -70,6 +85,7 @@ impl Lexicon {
             meanings: vec![in alloc; NOTHING; count]?,
             traits: Vec::new(alloc),
             uses: Vec::new(alloc),
+            locals: Vec::new(alloc),
         };
         for name in 0..PRIMITIVES.len() {
             lexicon.set(name, BUILT_IN);
@@ -89,11 +105,35 @@ impl Lexicon {
         }
     }
 
-    /// The name means this parameter, or none.
-    pub(crate) fn set_parameter(&mut self, name: usize, parameter: Option<usize>) {
+    /// The name means this parameter until the item ends.
+    pub(crate) fn set_parameter(&mut self, name: usize, parameter: Parameter) -> Result<(), Stop> {
         let mut meaning = self.meaning(name);
-        meaning.parameter = parameter;
+        meaning.parameter = Some(parameter);
         self.set(name, meaning);
+        push(&mut self.locals, name)?;
+        Ok(())
+    }
+
+    /// The name means a value of this type until the item ends.
+    pub(crate) fn set_value(&mut self, name: usize, number: usize) -> Result<(), Stop> {
+        let mut meaning = self.meaning(name);
+        meaning.value = Some(number);
+        self.set(name, meaning);
+        push(&mut self.locals, name)?;
+        Ok(())
+    }
+
+    /// No name means a parameter or a value.
+    pub(crate) fn forget_locals(&mut self) {
+        for _ in 0..u64::MAX {
+            let Some(name) = self.locals.pop() else {
+                return;
+            };
+            let mut meaning = self.meaning(name);
+            meaning.parameter = None;
+            meaning.value = None;
+            self.set(name, meaning);
+        }
     }
 
     /// The word declares a type with so many parameters.

@@ -7,6 +7,8 @@
 #![tactic(auto)]
 
 mod asking;
+mod bound_grammar;
+mod calls;
 mod declarations;
 mod draft;
 mod forms;

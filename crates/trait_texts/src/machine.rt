@@ -30,6 +30,8 @@ pub(crate) struct Machine<'a> {
     steps: &'static [Step],
     // The steps behind these, the last ones first.
     later: Vec<&'static [Step]>,
+    // The place that was kept.
+    mark: usize,
     /// The last limit on nested goals that was read.
     pub(crate) depth: usize,
 }
@@ -42,6 +44,7 @@ impl<'a> Machine<'a> {
             at: 0,
             steps: &[],
             later: Vec::new(alloc),
+            mark: 0,
             depth: DEPTH,
         }
     }
@@ -80,6 +83,8 @@ impl<'a> Machine<'a> {
             Step::Name => self.pass_if(matches!(token.kind, Kind::Name), Problem::NoName),
             Step::Number => self.pass_if(matches!(token.kind, Kind::Number), Problem::NoNumber),
             Step::Limit => self.read_limit(token.text),
+            Step::Mark => self.keep_place(),
+            Step::Back => self.go_back(),
             Step::Go(part) => self.choose(part),
             Step::Make(making) => reader.make(making, self.last_word()),
             Step::Do(doing) => reader.act(doing, self.last_word()),
@@ -93,6 +98,16 @@ impl<'a> Machine<'a> {
             return Err(self.refused(problem));
         }
         self.at = self.at.saturating_add(1);
+        Ok(())
+    }
+
+    fn keep_place(&mut self) -> Result<(), Stop> {
+        self.mark = self.at;
+        Ok(())
+    }
+
+    fn go_back(&mut self) -> Result<(), Stop> {
+        self.at = self.mark;
         Ok(())
     }
 

@@ -71,7 +71,7 @@ const KEYWORDS: &[&[u8]] = &[
     b"yield",
 ];
 
-/// Names, each with a number: those of the primitive types come first, and then keywords.
+/// Names, each with a number: those of the primitive types come first, and then keywords, and `Sized`.
 #[derive(Drop)]
 pub(crate) struct Names<'a> {
     texts: Vec<&'a [u8]>,
@@ -87,7 +87,13 @@ impl<'a> Names<'a> {
         };
         names.enter(PRIMITIVES)?;
         names.enter(KEYWORDS)?;
+        names.number(b"Sized")?;
         Ok(names)
+    }
+
+    /// The number of `Sized`.
+    pub(crate) fn sized() -> usize {
+        PRIMITIVES.len() + KEYWORDS.len()
     }
 
     fn enter(&mut self, words: &'static [&'static [u8]]) -> Result<(), NoMemory> {

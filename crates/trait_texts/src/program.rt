@@ -9,7 +9,7 @@ use path_kinds::path::PathKind;
 use std::alloc::Global;
 use std::marker::Model;
 use std::mem;
-use trait_rules::{Bound, Constructor, Listed, Rule, Rules, Shape, Terms, Trait};
+use trait_rules::{Bound, Clause, Constructor, Listed, Made, Rule, Rules, Shape, Terms, Trait};
 
 /// Rules, types and questions.
 #[derive(Drop)]
@@ -130,6 +130,29 @@ impl Program {
         }
     }
 
+    /// Types of the shape `head` implement the trait. An auto trait still looks at the fields of other types of their
+    /// constructor.
+    pub(crate) fn hold(&mut self, bound: usize, draft: Draft, head: usize) -> Result<(), NoMemory> {
+        match draft.outermost(head) {
+            Some(constructor) if self.has_fields(bound, constructor) => {
+                let rule = draft.rule(head)?;
+                self.blanket(bound, rule)
+            }
+            _ => self.implement(bound, draft, head, true),
+        }
+    }
+
+    // Whether the trait looks at the fields of types of the constructor, if there is no impl for it.
+    fn has_fields(&self, bound: usize, constructor: usize) -> bool {
+        match (
+            self.rules.traits.get(bound),
+            self.rules.constructors.get(constructor),
+        ) {
+            (Some(asked), Some(known)) => asked.is_auto && known.fields.is_some(),
+            _ => false,
+        }
+    }
+
     // An impl for the constructor.
     fn list(&mut self, constructor: usize, bound: usize, rule: Option<Rule>) -> Result<(), NoMemory>
         requires { IfSome rule (IsRuleOf constructor) }
@@ -192,6 +215,21 @@ impl Program {
         number.ok_or(NoMemory)
     }
 
+    /// A type of a constructor with one argument.
+    pub(crate) fn of_one(
+        &mut self,
+        constructor: usize,
+        argument: usize,
+    ) -> Result<usize, NoMemory> {
+        let number = self.type_of(Shape::Constructor(constructor), &[], None)?;
+        self.applied(number, argument)
+    }
+
+    /// How the type of this number is made.
+    pub(crate) fn made(&self, number: usize) -> Option<Made> {
+        self.terms.get(number)
+    }
+
     /// One more question. Its type and its trait have to be there.
     pub(crate) fn ask(&mut self, question: Question) -> Result<(), NoMemory> {
         if question.subject >= self.terms.len() || question.bound >= self.rules.traits.len() {
@@ -201,15 +239,9 @@ impl Program {
         Ok(())
     }
 
-    /// A question for each clause, with these types in the places of the parameters.
-    pub(crate) fn ask_all(
-        &mut self,
-        alloc: Global,
-        template: &Draft,
-        arguments: &[usize],
-    ) -> Result<(), NoMemory> {
-        let types = self.types_of(alloc, template.shapes(), arguments)?;
-        for clause in template.clauses() {
+    /// A question for each clause, with these types for the shapes.
+    pub(crate) fn ask_all(&mut self, clauses: &[Clause], types: &[usize]) -> Result<(), NoMemory> {
+        for clause in clauses {
             if let Bound::Trait(bound) = clause.bound {
                 let subject = types.get(clause.shape).copied().ok_or(NoMemory)?;
                 self.ask(Question { subject, bound })?;

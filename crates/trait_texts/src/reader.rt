@@ -1,9 +1,11 @@
 //! What is made of the parts of a text.
 
 use crate::asking::Asking;
+use crate::calls::{Call, Function, Given};
 use crate::draft::Draft;
-use crate::forms::{Forms, finish_fields};
-use crate::lexicon::{Lexicon, Word};
+use crate::forms::{Fact, Forms, finish_fields};
+use crate::lexicon::{Lexicon, Parameter, Word};
+use crate::names::{NEVER, Names};
 use crate::open::Open;
 use crate::program::Program;
 use crate::refusal::{Problem, Stop, push};
@@ -12,7 +14,19 @@ use crate::step::{Doing, Making};
 use path_kinds::path::PathKind;
 use std::alloc::Global;
 use std::mem;
-use trait_rules::Bound;
+use trait_rules::{Bound, Made};
+
+/// What is read, and so what bounds say.
+#[derive(Clone, Copy)]
+enum Role {
+    Question,
+    // A struct or an enum, whose bounds say nothing.
+    Type,
+    // An impl, or the signature of a function, which needs what its bounds say.
+    Needs,
+    // A function with something in its body, which assumes what its bounds say.
+    Body,
+}
 
 /// The item or the question that is read.
 #[derive(Drop)]
@@ -20,26 +34,33 @@ pub(crate) struct Item {
     pub(crate) word: Word,
     pub(crate) parameters: Vec<Word>,
     pub(crate) draft: Draft,
-    // Whether its bounds say something.
-    says: bool,
+    role: Role,
+    // The shapes of the values that a function takes.
+    values: Vec<usize>,
+    // The values that a call has been given.
+    given: Vec<Given>,
     // The shape of `Self`.
     own: Option<usize>,
-    // That of which bounds are read.
+    // That of which bounds are read, and the place of its last word.
     subject: usize,
+    subject_place: usize,
     // The trait of an impl, and the trait that is declared.
     bound: usize,
     is_positive: bool,
 }
 
 impl Item {
-    fn new(alloc: Global, word: Word, says: bool) -> Item {
+    fn new(alloc: Global, word: Word, role: Role) -> Item {
         Item {
             word,
             parameters: Vec::new(alloc),
             draft: Draft::new(alloc),
-            says,
+            role,
+            values: Vec::new(alloc),
+            given: Vec::new(alloc),
             own: None,
             subject: 0,
+            subject_place: 0,
             bound: 0,
             is_positive: true,
         }
@@ -71,7 +92,7 @@ impl Reader {
             asking: Asking::new(alloc),
             program: Program::new(alloc),
             open: Open::new(alloc),
-            item: Item::new(alloc, word, true),
+            item: Item::new(alloc, word, Role::Question),
         })
     }
 
@@ -80,6 +101,7 @@ impl Reader {
         match making {
             Making::Begin => self.open.begin(word),
             Making::EndPath => self.end_path(),
+            Making::Constant => self.name_constant(word),
             Making::EndParentheses => self.open.leave(),
             Making::EndTuple => self.end_tuple(),
             Making::EndFunction => self.end_function(),
@@ -133,16 +155,36 @@ impl Reader {
     fn end_path(&mut self) -> Result<(), Stop> {
         let start = self.open.end()?;
         let count = self.open.parts_from(start.first).len();
-        if let Some(shape) = self.lexicon.meaning(start.word.name).parameter {
+        if let Some(parameter) = self.lexicon.meaning(start.word.name).parameter {
             if count > 0 {
                 return Err(Stop::Refused(start.word.place, Problem::Arguments(0)));
             }
-            return self.open.put(shape);
+            return self.put_parameter(parameter);
         }
         self.lexicon.note_use(start.word, count)?;
         let form = Form::Path(start.word.name);
         let constructor = self.forms.constructor(self.alloc, &mut self.program, form)?;
         self.end_parts(constructor, start.first)
+    }
+
+    fn put_parameter(&mut self, parameter: Parameter) -> Result<(), Stop> {
+        let shape = match parameter {
+            Parameter::Shape(shape) => shape,
+            Parameter::Constant(constructor) => self.item.draft.constructor(constructor)?,
+        };
+        self.open.put(shape)
+    }
+
+    // Only a question names the parameter of a function.
+    fn name_constant(&mut self, word: Word) -> Result<(), Stop> {
+        let start = self.open.end()?;
+        let Role::Question = self.item.role else {
+            return Err(Stop::Refused(start.word.place, Problem::NoType));
+        };
+        let constructor = self
+            .forms
+            .name_constant(self.alloc, &mut self.program, start.word.name, word)?;
+        self.put_parameter(Parameter::Constant(constructor))
     }
 
     fn make_dyn(&mut self, word: Word) -> Result<(), Stop> {
@@ -168,8 +210,10 @@ impl Reader {
     /// Does what follows from words of an item or a question.
     pub(crate) fn act(&mut self, doing: Doing, word: Word) -> Result<(), Stop> {
         match doing {
-            Doing::BeginItem => self.begin_item(word, true),
-            Doing::BeginType => self.begin_item(word, false),
+            Doing::BeginQuestion => self.begin_item(word, Role::Question),
+            Doing::BeginItem => self.begin_item(word, Role::Needs),
+            Doing::BeginType => self.begin_item(word, Role::Type),
+            Doing::BeginBody => self.begin_item(self.item.word, Role::Body),
             Doing::NameItem => self.name_item(word),
             Doing::EndType => self.end_type_item(),
             Doing::Trait(is_auto, is_coinductive) => {
@@ -181,13 +225,25 @@ impl Reader {
             Doing::SetHead => self.set_head(),
             Doing::EndImpl => self.end_impl(),
             Doing::Parameter => self.add_parameter(word),
-            Doing::Subject => self.set_subject(),
+            Doing::Subject => self.set_subject(word),
+            Doing::Relax => self.relax(),
             Doing::EndBounds => self.end_bounds(),
             Doing::Field => self.add_field(),
+            doing => self.act_in_function(doing, word),
+        }
+    }
+
+    // The same of words of a function, or of a question.
+    fn act_in_function(&mut self, doing: Doing, word: Word) -> Result<(), Stop> {
+        match doing {
+            Doing::Value => self.add_value(),
             Doing::EndSignature => self.end_signature(),
             Doing::Ask => self.end_question(word),
             Doing::BeginCall => self.begin_call(word),
+            Doing::Give => self.give(word),
+            Doing::Refer(form) => self.refer(form),
             Doing::EndCall => self.end_call(),
+            _ => Ok(()),
         }
     }
 
@@ -212,8 +268,9 @@ impl Reader {
         Ok(())
     }
 
-    fn set_subject(&mut self) -> Result<(), Stop> {
+    fn set_subject(&mut self, word: Word) -> Result<(), Stop> {
         self.item.subject = self.open.take()?;
+        self.item.subject_place = word.place;
         Ok(())
     }
 
@@ -224,11 +281,9 @@ impl Reader {
     }
 
     // The parameters of the item before mean nothing more.
-    fn begin_item(&mut self, word: Word, says: bool) -> Result<(), Stop> {
-        for parameter in self.item.parameters.iter() {
-            self.lexicon.set_parameter(parameter.name, None);
-        }
-        self.item = Item::new(self.alloc, word, says);
+    fn begin_item(&mut self, word: Word, role: Role) -> Result<(), Stop> {
+        self.lexicon.forget_locals();
+        self.item = Item::new(self.alloc, word, role);
         Ok(())
     }
 
@@ -236,24 +291,67 @@ impl Reader {
         if self.lexicon.meaning(word.name).parameter.is_some() {
             return Err(Stop::Refused(word.place, Problem::Twice));
         }
-        let shape = self.item.draft.parameter()?;
-        self.lexicon.set_parameter(word.name, Some(shape));
         push(&mut self.item.parameters, word)?;
+        if let Role::Body = self.item.role {
+            return self.add_constant(word);
+        }
+        let shape = self.item.draft.parameter()?;
         self.item.subject = shape;
+        self.lexicon
+            .set_parameter(word.name, Parameter::Shape(shape))
+    }
+
+    // In the body of a function a parameter is a type of its own.
+    fn add_constant(&mut self, word: Word) -> Result<(), Stop> {
+        let function = self.item.word.name;
+        let constructor = self
+            .forms
+            .declare_constant(self.alloc, &mut self.program, function, word.name)?;
+        self.item.draft = Draft::new(self.alloc);
+        self.item.subject = self.item.draft.constructor(constructor)?;
+        self.lexicon
+            .set_parameter(word.name, Parameter::Constant(constructor))
+    }
+
+    // Of the parameters of a function in its body each has a size that is not said to have none.
+    fn relax(&mut self) -> Result<(), Stop> {
+        match self.item.draft.outermost(self.item.subject) {
+            Some(constructor) if matches!(self.item.role, Role::Body) => {
+                self.forms.relax(constructor)
+            }
+            _ => Ok(()),
+        }
+    }
+
+    // What the bounds of a type say is needed or assumed, or it is nothing.
+    fn end_bounds(&mut self) -> Result<(), Stop> {
+        let bounds = self.open.take_bounds(self.alloc);
+        match self.item.role {
+            Role::Needs => self.need(bounds.as_slice()),
+            Role::Body => self.assume(bounds),
+            _ => Ok(()),
+        }
+    }
+
+    fn need(&mut self, bounds: &[usize]) -> Result<(), Stop> {
+        for bound in bounds {
+            self.item
+                .draft
+                .ask(self.item.subject, Bound::Trait(*bound))?;
+        }
         Ok(())
     }
 
-    // Asks what the bounds of a type say.
-    fn end_bounds(&mut self) -> Result<(), Stop> {
-        let bounds = self.open.take_bounds(self.alloc);
-        if self.item.says {
-            for bound in bounds.as_slice() {
-                self.item
-                    .draft
-                    .ask(self.item.subject, Bound::Trait(*bound))?;
-            }
+    // A body may assume nothing that is not about its parameters: it would hold elsewhere, too.
+    fn assume(&mut self, bounds: Vec<usize>) -> Result<(), Stop> {
+        let draft = self.take_draft();
+        if bounds.is_empty() {
+            return Ok(());
         }
-        Ok(())
+        if !self.forms.has_constant(draft.shapes()) {
+            return Err(Stop::Refused(self.item.subject_place, Problem::NoParameter));
+        }
+        self.forms.hold(draft, self.item.subject, bounds)
     }
 
     // The draft of the item, in whose place is an empty one.
@@ -277,6 +375,7 @@ impl Reader {
         is_auto: bool,
         is_coinductive: bool,
     ) -> Result<(), Stop> {
+        self.begin_item(word, Role::Type)?;
         let number = self.trait_number(word)?;
         self.lexicon.declare_trait(word, number)?;
         let kind = match (is_coinductive, self.as_rustc) {
@@ -310,10 +409,33 @@ impl Reader {
         Ok(())
     }
 
+    // A value that a function takes, or one in its body. The type is known where there is no parameter in it.
+    fn add_value(&mut self) -> Result<(), Stop> {
+        let shape = self.open.take()?;
+        let name = self.open.end()?.word;
+        if let Role::Body = self.item.role {
+            let types = self.take_types()?;
+            let number = type_at(types.as_slice(), shape)?;
+            return self.lexicon.set_value(name.name, number);
+        }
+        push(&mut self.item.values, shape)?;
+        if Names::is_keyword(name.name) {
+            return Ok(());
+        }
+        if self.lexicon.meaning(name.name).value.is_some() {
+            return Err(Stop::Refused(name.place, Problem::Twice));
+        }
+        self.lexicon.set_value(name.name, shape)
+    }
+
     fn end_signature(&mut self) -> Result<(), Stop> {
-        let draft = self.take_draft();
-        let function = self.asking.add_function(self.item.parameters.len(), draft)?;
-        self.lexicon.declare_function(self.item.word, function)
+        let function = Function {
+            arguments: self.item.parameters.len(),
+            values: mem::replace(&mut self.item.values, Vec::new(self.alloc)),
+            draft: self.take_draft(),
+        };
+        let number = self.asking.add_function(function)?;
+        self.lexicon.declare_function(self.item.word, number)
     }
 
     // The types of the shapes of the draft, in whose place is an empty one.
@@ -335,10 +457,32 @@ impl Reader {
     }
 
     fn begin_call(&mut self, word: Word) -> Result<(), Stop> {
-        if !self.item.parameters.is_empty() {
-            return Err(Stop::Refused(word.place, Problem::Body));
+        if self.lexicon.meaning(word.name).value.is_some() {
+            return Err(Stop::Refused(word.place, Problem::Value));
         }
         self.open.begin(word)
+    }
+
+    // A value of the type `!` may be taken as one of another type, by rules that are not followed here.
+    fn give(&mut self, word: Word) -> Result<(), Stop> {
+        let Some(number) = self.lexicon.meaning(word.name).value else {
+            return Err(Stop::Refused(word.place, Problem::UnknownValue));
+        };
+        let form = Form::Path(NEVER);
+        let never = self.forms.constructor(self.alloc, &mut self.program, form)?;
+        if self.program.made(number) == Some(Made::Constructor(never)) {
+            return Err(Stop::Refused(word.place, Problem::NeverValue));
+        }
+        push(&mut self.item.given, Given { word, number })?;
+        Ok(())
+    }
+
+    // The value that was given last is a reference to the one that is named.
+    fn refer(&mut self, form: Form) -> Result<(), Stop> {
+        let constructor = self.forms.constructor(self.alloc, &mut self.program, form)?;
+        let given = self.item.given.last_mut().ok_or(Stop::Memory)?;
+        given.number = self.program.of_one(constructor, given.number)?;
+        Ok(())
     }
 
     fn end_call(&mut self) -> Result<(), Stop> {
@@ -349,29 +493,33 @@ impl Reader {
             push(&mut arguments, type_at(types.as_slice(), *shape)?)?;
         }
         self.open.drop_parts(start.first);
-        self.asking.call(start.word, arguments)
+        let given = mem::replace(&mut self.item.given, Vec::new(self.alloc));
+        self.asking.call(Call {
+            word: start.word,
+            types: arguments,
+            given,
+        })
     }
 
     /// What can be done once all is read: all that is named has to be declared, and all is asked.
     pub(crate) fn finish(&mut self) -> Result<(), Stop> {
         self.lexicon.check()?;
-        self.implement_objects()?;
+        self.forms.check(self.alloc)?;
+        if let Some(bound) = self.lexicon.meaning(Names::sized()).bound {
+            self.forms.hold_sized(self.alloc, bound)?;
+        }
+        self.hold_facts()?;
         self.asking
             .ask_all(self.alloc, &self.lexicon, &mut self.program)
     }
 
-    // Each `dyn` type implements the traits that it names, and those above them.
-    fn implement_objects(&mut self) -> Result<(), Stop> {
+    // Where types implement traits as is assumed, or as a `dyn` type does that names them, they implement those above them.
+    fn hold_facts(&mut self) -> Result<(), Stop> {
         let mut met = vec![in self.alloc; usize::MAX; self.lexicon.trait_count()]?;
-        for (number, object) in self.forms.objects.iter().enumerate() {
-            let traits = object.traits.as_slice();
+        for (number, fact) in self.forms.facts.iter().enumerate() {
+            let traits = fact.traits.as_slice();
             let all = all_above(self.alloc, &self.lexicon, &mut met, number, traits)?;
-            implement_all(
-                self.alloc,
-                &mut self.program,
-                object.constructor,
-                all.as_slice(),
-            )?;
+            hold_all(self.alloc, &mut self.program, fact, all.as_slice())?;
         }
         Ok(())
     }
@@ -387,7 +535,7 @@ fn behind(word: Word) -> usize {
     word.place.saturating_add(1)
 }
 
-// These traits and those above them, each once. `met` has for each trait the number of the last type for which it was met.
+// These traits and those above them, each once. `met` has for each trait the number of the last fact for which it was met.
 fn all_above(
     alloc: Global,
     lexicon: &Lexicon,
@@ -413,17 +561,16 @@ fn all_above(
     Ok(found)
 }
 
-// A constructor without arguments implements all these traits.
-fn implement_all(
+// The types that the fact is about implement all these traits.
+fn hold_all(
     alloc: Global,
     program: &mut Program,
-    constructor: usize,
+    fact: &Fact,
     traits: &[usize],
 ) -> Result<(), Stop> {
     for bound in traits {
-        let mut draft = Draft::new(alloc);
-        let head = draft.constructor(constructor)?;
-        program.implement(*bound, draft, head, true)?;
+        let draft = fact.draft.copied(alloc)?;
+        program.hold(*bound, draft, fact.head)?;
     }
     Ok(())
 }

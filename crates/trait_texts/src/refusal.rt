@@ -25,7 +25,17 @@ pub enum Problem {
     Arguments(usize),
     NoSelf,
     Unconstrained,
-    Body,
+    /// A where-clause has to have a parameter in it, where the body of the function has something in it.
+    NoParameter,
+    UnknownParameter,
+    NoValue,
+    UnknownValue,
+    /// A function is called by the name of a value.
+    Value,
+    NeverValue,
+    /// A value has another type than the function takes.
+    OtherType,
+    Undetermined,
 }
 
 impl Problem {
@@ -48,7 +58,15 @@ impl Problem {
             Problem::Arguments(_) => b"the number of its arguments is",
             Problem::NoSelf => b"there is no `Self` here",
             Problem::Unconstrained => b"the parameter has to stand in the type of the impl (E0207)",
-            Problem::Body => b"the body of a function with parameters has to be empty",
+            Problem::NoParameter => b"no parameter stands in what the body would assume",
+            Problem::UnknownParameter =>
+                b"no function with something in its body has this parameter",
+            Problem::NoValue => b"this value is not read",
+            Problem::UnknownValue => b"no value has this name",
+            Problem::Value => b"this is a value, and no function",
+            Problem::NeverValue => b"a value of the type `!` may be given as one of any type",
+            Problem::OtherType => b"the function takes another type there",
+            Problem::Undetermined => b"what a parameter stands for is not said",
         }
     }
 }

@@ -23,6 +23,8 @@ pub(crate) enum Form {
     Function(usize),
     /// `dyn` and this set of traits.
     Dyn(usize),
+    /// A parameter of a function in its body, by the names of the function and of the parameter.
+    Constant(usize, usize),
 }
 
 impl Key for Form {
@@ -58,6 +60,8 @@ enum Piece<'a> {
 // What is written, and what is still to be written, the last one first.
 #[derive(Drop)]
 struct Page<'a> {
+    // The parameter of a function is written as a question names it.
+    is_full: bool,
     text: Vec<u8>,
     pieces: Vec<Piece<'a>>,
 }
@@ -112,7 +116,30 @@ impl<'a> Spelling<'a> {
         terms: &Terms,
         number: usize,
     ) -> Result<(), NoMemory> {
+        self.write_named(alloc, text, terms, number, false)
+    }
+
+    /// The same as a question may ask it: the parameter `T` of the function `f` is `f::T`.
+    pub fn write_full_type(
+        &self,
+        alloc: Global,
+        text: &mut Vec<u8>,
+        terms: &Terms,
+        number: usize,
+    ) -> Result<(), NoMemory> {
+        self.write_named(alloc, text, terms, number, true)
+    }
+
+    fn write_named(
+        &self,
+        alloc: Global,
+        text: &mut Vec<u8>,
+        terms: &Terms,
+        number: usize,
+        is_full: bool,
+    ) -> Result<(), NoMemory> {
         let mut page = Page {
+            is_full,
             text: Vec::new(alloc),
             pieces: Vec::new(alloc),
         };
@@ -195,6 +222,7 @@ impl<'a> Spelling<'a> {
             Form::Array(length) => self.begin_array(page, length, arguments),
             Form::Function(_) => self.begin_function(page, terms, arguments),
             Form::Dyn(set) => self.write_dyn(alloc, page, set),
+            Form::Constant(function, name) => self.write_constant(page, function, name),
             form => begin_marks(page, form, arguments),
         }
     }
@@ -211,6 +239,19 @@ impl<'a> Spelling<'a> {
         }
         page.write(b"<")?;
         page.lay_out(arguments, b">")
+    }
+
+    fn write_constant(
+        &self,
+        page: &mut Page<'a>,
+        function: usize,
+        name: usize,
+    ) -> Result<(), NoMemory> {
+        if page.is_full {
+            page.write(self.name(function))?;
+            page.write(b"::")?;
+        }
+        page.write(self.name(name))
     }
 
     fn begin_array(

@@ -46,8 +46,21 @@ pub(crate) enum Part {
     VariantFields,
     VariantsNext,
     Function,
+    Signature,
+    Values,
+    ValuesNext,
+    Declared,
+    Pattern,
     Body,
+    Statements,
+    Never,
+    Stopping,
+    CallNext,
     CallArguments,
+    Given,
+    GivenNext,
+    GivenValue,
+    GivenReference,
     Parameters,
     ParameterList,
     ParametersNext,
@@ -92,6 +105,8 @@ pub(crate) enum Making {
     /// A type begins: one of the word's name, or of another form.
     Begin,
     EndPath,
+    /// The word names the parameter of the function with whose name the type began.
+    Constant,
     EndParentheses,
     EndTuple,
     EndFunction,
@@ -109,10 +124,13 @@ pub(crate) enum Making {
 /// What is done with what was read. The word that is meant is the one that was passed last.
 #[derive(Clone, Copy)]
 pub(crate) enum Doing {
-    /// An item or a question begins.
+    BeginQuestion,
+    /// An item begins.
     BeginItem,
     /// An item begins whose bounds say nothing.
     BeginType,
+    /// The signature follows again, which says what holds in the body.
+    BeginBody,
     /// The word is the item's name.
     NameItem,
     EndType,
@@ -131,12 +149,20 @@ pub(crate) enum Doing {
     Parameter,
     /// The bounds that follow are those of the last type.
     Subject,
+    /// That type may have no size.
+    Relax,
     EndBounds,
     Field,
+    /// The last type is that of the value whose name, or `_`, stands before it.
+    Value,
     EndSignature,
     Ask,
     /// The word names the function that is called.
     BeginCall,
+    /// The word names a value that is given to the function.
+    Give,
+    /// It is a reference to that value that is given.
+    Refer(Form),
     EndCall,
 }
 
@@ -152,6 +178,10 @@ pub(crate) enum Step {
     Number,
     /// A number in quotes has to stand here, which is the limit on depth.
     Limit,
+    /// This place is kept.
+    Mark,
+    /// What follows is what stands at the place that was kept last.
+    Back,
     Go(Part),
     Make(Making),
     Do(Doing),

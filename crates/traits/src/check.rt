@@ -3,7 +3,7 @@
 mod data;
 mod same_rules;
 
-use crate::labels::write_goal;
+use crate::labels::write_full_goal;
 use crate::program::{all_goals, read_texts};
 use crate::stop::Stop;
 use crate::text::{Text, sources_of};
@@ -102,7 +102,7 @@ fn are_named(
     let mut spelled = Vec::new(alloc);
     for (goal, name) in data.names.iter().enumerate() {
         spelled.clear();
-        write_goal(alloc, &mut spelled, goals, spelling, goal)?;
+        write_full_goal(alloc, &mut spelled, goals, spelling, goal)?;
         if spelled.as_slice() != name.as_slice() {
             return Ok(false);
         }

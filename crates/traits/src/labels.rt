@@ -17,13 +17,48 @@ pub(crate) fn write_goal(
         return Ok(());
     };
     spelling.write_type(alloc, text, goals.terms(), asked.subject)?;
+    write_bound(text, spelling, asked.bound)
+}
+
+/// The same as a question that is read again: the parameter `T` of the function `f` is `f::T`.
+pub(crate) fn write_full_goal(
+    alloc: Global,
+    text: &mut Vec<u8>,
+    goals: &Goals,
+    spelling: &Spelling<'_>,
+    goal: usize,
+) -> Result<(), NoMemory> {
+    let Some(asked) = goals.asked(goal) else {
+        return Ok(());
+    };
+    spelling.write_full_type(alloc, text, goals.terms(), asked.subject)?;
+    write_bound(text, spelling, asked.bound)
+}
+
+/// Writes what is asked of a type: `: Send`.
+fn write_bound(text: &mut Vec<u8>, spelling: &Spelling<'_>, bound: usize) -> Result<(), NoMemory> {
     text.extend_from_slice(b": ")?;
-    text.extend_from_slice(spelling.trait_name(asked.bound).unwrap_or(b""))?;
+    text.extend_from_slice(spelling.trait_name(bound).unwrap_or(b""))?;
     Ok(())
 }
 
-/// What each goal is called: `List<i32>: Send`.
+/// What each goal is called: `List<i32>: Send`. It can be read again.
 pub(crate) fn names_of(
+    alloc: Global,
+    goals: &Goals,
+    spelling: &Spelling<'_>,
+) -> Result<Vec<Vec<u8>>, NoMemory> {
+    let mut names = Vec::new(alloc);
+    for goal in 0..goals.len() {
+        let mut name = Vec::new(alloc);
+        write_full_goal(alloc, &mut name, goals, spelling, goal)?;
+        names.push(name)?;
+    }
+    Ok(names)
+}
+
+/// The same, as answers name it.
+pub(crate) fn short_names_of(
     alloc: Global,
     goals: &Goals,
     spelling: &Spelling<'_>,
@@ -37,13 +72,13 @@ pub(crate) fn names_of(
     Ok(names)
 }
 
-/// The same as a word in a rule: `List<i32>:Send`. Where a blank cannot be left out, as in `&mut T`, stands `~`.
+/// A short name as a word in a rule: `List<i32>:Send`. Where a blank cannot be left out, as in `&mut T`, stands `~`.
 pub(crate) fn labels_of(
     alloc: Global,
     goals: &Goals,
     spelling: &Spelling<'_>,
 ) -> Result<Vec<Vec<u8>>, NoMemory> {
-    let names = names_of(alloc, goals, spelling)?;
+    let names = short_names_of(alloc, goals, spelling)?;
     let mut labels = Vec::with_capacity(alloc, names.len())?;
     for name in names.iter() {
         labels.push(word_of(alloc, name.as_slice())?)?;

@@ -3,7 +3,7 @@
 mod answering;
 
 use crate::check::write_names;
-use crate::labels::{labels_of, names_of};
+use crate::labels::{labels_of, names_of, short_names_of};
 use crate::rounds::{Came, ask_in_rounds};
 use crate::stop::Stop;
 use crate::table::write_table;
@@ -116,7 +116,7 @@ pub(crate) fn tell_rules<W: Write>(
     out: &mut W,
 ) -> Result<bool, Stop> {
     let goals = &answered.goals;
-    let labels = names_of(alloc, goals, &answered.spelling)?;
+    let labels = short_names_of(alloc, goals, &answered.spelling)?;
     let asked = answered.asked.as_slice();
     let text = write_table(alloc, goals, labels.as_slice(), asked, answered.depth)?;
     out.write_all(text.as_slice())?;

@@ -1,0 +1,240 @@
+//! What each part of a text may be: parameters, bounds and types.
+
+use crate::refusal::Problem::{NoTrait, NoType};
+use crate::spelling::Form;
+use crate::step::Doing::*;
+use crate::step::Making::*;
+use crate::step::Part::*;
+use crate::step::Step::*;
+use crate::step::When::*;
+use crate::step::{Part, Row};
+
+// Parameters, where-clauses and bounds.
+
+const PARAMETERS: &[Row] = &[(At("<"), &[Pass, Go(ParameterList)]), (Else, &[])];
+
+const PARAMETER_LIST: &[Row] = &[
+    (At(">"), &[Pass]),
+    (AtLifetime, &[Pass, Go(LifetimeBounds), Go(ParametersNext)]),
+    (
+        Else,
+        &[Name, Do(Parameter), Go(ParameterBounds), Go(ParametersNext)],
+    ),
+];
+
+const PARAMETERS_NEXT: &[Row] = &[(At(","), &[Pass, Go(ParameterList)]), (Else, &[Word(">")])];
+
+const PARAMETER_BOUNDS: &[Row] = &[(At(":"), &[Pass, Go(Bounds), Do(EndBounds)]), (Else, &[])];
+
+const LIFETIME_BOUNDS: &[Row] = &[(At(":"), &[Pass, Go(Outlives)]), (Else, &[])];
+
+const OUTLIVES: &[Row] = &[(AtLifetime, &[Pass, Go(OutlivesNext)]), (Else, &[])];
+
+const OUTLIVES_NEXT: &[Row] = &[(At("+"), &[Pass, Go(Outlives)]), (Else, &[])];
+
+const WHERE: &[Row] = &[(At("where"), &[Pass, Go(WhereList)]), (Else, &[])];
+
+const WHERE_LIST: &[Row] = &[
+    (At("{"), &[]),
+    (At(";"), &[]),
+    (AtEnd, &[]),
+    (AtLifetime, &[Pass, Word(":"), Go(Outlives), Go(WhereNext)]),
+    (
+        Else,
+        &[
+            Go(Type),
+            Do(Subject),
+            Word(":"),
+            Go(Bounds),
+            Do(EndBounds),
+            Go(WhereNext),
+        ],
+    ),
+];
+
+const WHERE_NEXT: &[Row] = &[(At(","), &[Pass, Go(WhereList)]), (Else, &[])];
+// Bounds of parameters, of types in where-clauses and of traits. There may be none, and `+` may end them.
+const BOUNDS: &[Row] = &[
+    (AtLifetime, &[Pass, Go(BoundsNext)]),
+    (At("?"), &[Pass, Word("Sized"), Do(Relax), Go(BoundsNext)]),
+    (AtName, &[Pass, Make(Bound), Go(BoundsNext)]),
+    (Else, &[]),
+];
+
+const BOUNDS_NEXT: &[Row] = &[(At("+"), &[Pass, Go(Bounds)]), (Else, &[])];
+// What `dyn` types name, several or one.
+const NAMED: &[Row] = &[
+    (AtLifetime, &[Pass, Go(NamedNext)]),
+    (AtName, &[Pass, Make(Bound), Go(NamedNext)]),
+    (Else, &[]),
+];
+
+const NAMED_NEXT: &[Row] = &[(At("+"), &[Pass, Go(Named)]), (Else, &[])];
+
+const ONE_NAMED: &[Row] = &[
+    (AtLifetime, &[Pass]),
+    (AtName, &[Pass, Make(Bound)]),
+    (Else, &[]),
+];
+// What questions ask.
+const ASKED: &[Row] = &[
+    (AtLifetime, &[Pass, Go(AskedNext)]),
+    (AtName, &[Pass, Make(Bound), Go(AskedNext)]),
+    (Else, &[Refuse(NoTrait)]),
+];
+
+const ASKED_NEXT: &[Row] = &[(At("+"), &[Pass, Go(Asked)]), (Else, &[])];
+
+// Types. Behind a mark a type is narrow: it takes no `+`.
+
+const TYPE: &[Row] = &[
+    (At("dyn"), &[Pass, Go(Named), Make(Dyn)]),
+    (Else, &[Go(PlainType)]),
+];
+
+const NARROW_TYPE: &[Row] = &[
+    (At("dyn"), &[Pass, Go(OneNamed), Make(Dyn)]),
+    (Else, &[Go(PlainType)]),
+];
+
+const PLAIN_TYPE: &[Row] = &[
+    (AtName, &[Pass, Go(Path)]),
+    (At("("), &[Pass, Make(Begin), Go(Parentheses)]),
+    (At("["), &[Pass, Make(Begin), Go(Type), Go(Brackets)]),
+    (At("&"), &[Pass, Make(Begin), Go(Reference)]),
+    (At("*"), &[Pass, Make(Begin), Go(Pointer)]),
+    (At("!"), &[Pass, Make(Begin), Make(EndPath)]),
+    (At("fn"), &[Pass, Go(FunctionType)]),
+    (At("Self"), &[Pass, Make(Own)]),
+    (Else, &[Refuse(NoType)]),
+];
+// A type in parentheses, if no comma follows it, and else a tuple.
+const PARENTHESES: &[Row] = &[
+    (At(")"), &[Pass, Make(EndTuple)]),
+    (Else, &[Go(Type), Go(ParenthesesNext)]),
+];
+
+const PARENTHESES_NEXT: &[Row] = &[
+    (At(")"), &[Pass, Make(EndParentheses)]),
+    (Else, &[Word(","), Go(Tuple)]),
+];
+
+const TUPLE: &[Row] = &[
+    (At(")"), &[Pass, Make(EndTuple)]),
+    (Else, &[Go(Type), Go(TupleNext)]),
+];
+
+const TUPLE_NEXT: &[Row] = &[
+    (At(","), &[Pass, Go(Tuple)]),
+    (Else, &[Word(")"), Make(EndTuple)]),
+];
+
+const BRACKETS: &[Row] = &[
+    (At("]"), &[Pass, Make(End(Form::Slice))]),
+    (Else, &[Word(";"), Number, Make(EndArray), Word("]")]),
+];
+
+const REFERENCE: &[Row] = &[(AtLifetime, &[Pass, Go(Referent)]), (Else, &[Go(Referent)])];
+
+const REFERENT: &[Row] = &[
+    (
+        At("mut"),
+        &[Pass, Go(NarrowType), Make(End(Form::MutableReference))],
+    ),
+    (Else, &[Go(NarrowType), Make(End(Form::Reference))]),
+];
+
+const POINTER: &[Row] = &[
+    (
+        At("const"),
+        &[Pass, Go(NarrowType), Make(End(Form::ConstantPointer))],
+    ),
+    (
+        Else,
+        &[Word("mut"), Go(NarrowType), Make(End(Form::MutablePointer))],
+    ),
+];
+
+const FUNCTION_TYPE: &[Row] = &[(Else, &[Word("("), Make(Begin), Go(FunctionParts)])];
+
+const FUNCTION_PARTS: &[Row] = &[
+    (At(")"), &[Pass, Go(FunctionResult)]),
+    (Else, &[Go(Type), Go(FunctionNext)]),
+];
+
+const FUNCTION_NEXT: &[Row] = &[
+    (At(","), &[Pass, Go(FunctionParts)]),
+    (Else, &[Word(")"), Go(FunctionResult)]),
+];
+
+const FUNCTION_RESULT: &[Row] = &[
+    (At("->"), &[Pass, Go(NarrowType), Make(EndFunction)]),
+    (Else, &[Make(Begin), Make(EndTuple), Make(EndFunction)]),
+];
+
+const PATH: &[Row] = &[(Else, &[Make(Begin), Go(Arguments)])];
+
+// In questions, `f::T` is the parameter of a function.
+const ARGUMENTS: &[Row] = &[
+    (At("<"), &[Pass, Go(ArgumentList), Make(EndPath)]),
+    (At("::"), &[Pass, Name, Make(Constant)]),
+    (Else, &[Make(EndPath)]),
+];
+
+const ARGUMENT_LIST: &[Row] = &[
+    (At(">"), &[Pass]),
+    (AtLifetime, &[Pass, Go(ArgumentsNext)]),
+    (Else, &[Go(Type), Go(ArgumentsNext)]),
+];
+
+const ARGUMENTS_NEXT: &[Row] = &[(At(","), &[Pass, Go(ArgumentList)]), (Else, &[Word(">")])];
+
+/// What the part may be, if it is one of these.
+pub(crate) fn bound_rows(part: Part) -> &'static [Row] {
+    match part {
+        Part::Parameters => PARAMETERS,
+        Part::ParameterList => PARAMETER_LIST,
+        Part::ParametersNext => PARAMETERS_NEXT,
+        Part::ParameterBounds => PARAMETER_BOUNDS,
+        Part::LifetimeBounds => LIFETIME_BOUNDS,
+        Part::Outlives => OUTLIVES,
+        Part::OutlivesNext => OUTLIVES_NEXT,
+        Part::Where => WHERE,
+        Part::WhereList => WHERE_LIST,
+        Part::WhereNext => WHERE_NEXT,
+        Part::Bounds => BOUNDS,
+        Part::BoundsNext => BOUNDS_NEXT,
+        Part::Named => NAMED,
+        Part::NamedNext => NAMED_NEXT,
+        Part::OneNamed => ONE_NAMED,
+        Part::Asked => ASKED,
+        Part::AskedNext => ASKED_NEXT,
+        other => type_rows(other),
+    }
+}
+
+// The same of types.
+fn type_rows(part: Part) -> &'static [Row] {
+    match part {
+        Part::Type => TYPE,
+        Part::NarrowType => NARROW_TYPE,
+        Part::PlainType => PLAIN_TYPE,
+        Part::Parentheses => PARENTHESES,
+        Part::ParenthesesNext => PARENTHESES_NEXT,
+        Part::Tuple => TUPLE,
+        Part::TupleNext => TUPLE_NEXT,
+        Part::Brackets => BRACKETS,
+        Part::Reference => REFERENCE,
+        Part::Referent => REFERENT,
+        Part::Pointer => POINTER,
+        Part::FunctionType => FUNCTION_TYPE,
+        Part::FunctionParts => FUNCTION_PARTS,
+        Part::FunctionNext => FUNCTION_NEXT,
+        Part::FunctionResult => FUNCTION_RESULT,
+        Part::Path => PATH,
+        Part::Arguments => ARGUMENTS,
+        Part::ArgumentList => ARGUMENT_LIST,
+        Part::ArgumentsNext => ARGUMENTS_NEXT,
+        _ => &[],
+    }
+}
