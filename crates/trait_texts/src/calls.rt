@@ -4,7 +4,7 @@ use crate::draft::Draft;
 use crate::lexicon::Word;
 use crate::program::Program;
 use crate::refusal::{Problem, Stop, push};
-use search_context::context::NoMemory;
+use path_kinds::memory::NoMemory;
 use std::alloc::Global;
 use trait_rules::{Made, Shape};
 

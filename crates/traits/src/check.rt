@@ -42,17 +42,39 @@ fn goals_named(
     as_rustc: bool,
     file: &str,
 ) -> Result<Goals, Stop> {
+    let declared = read_with_names(alloc, data, texts, as_rustc, file)?;
+    let (goals, spelling) = goals_of(alloc, data, declared)?;
+    compare_names(alloc, data, &goals, &spelling)?;
+    Ok(goals)
+}
+
+// What the texts declare, with a question for each of the names.
+fn read_with_names<'a>(
+    alloc: Global,
+    data: &'a Data<'_>,
+    texts: &'a [Text<'_>],
+    as_rustc: bool,
+    file: &'a str,
+) -> Result<Declarations<'a>, Stop> {
     let mut sources = sources_of(alloc, texts)?;
     sources.push(Source {
         name: file.as_bytes(),
         text: data.questions.as_slice(),
     })?;
-    let declared = read_texts(alloc, sources.as_slice(), as_rustc)?;
-    let (goals, spelling) = goals_of(alloc, data, declared)?;
-    if are_named(alloc, data, &goals, &spelling)? {
-        Ok(goals)
+    read_texts(alloc, sources.as_slice(), as_rustc)
+}
+
+// The goals have to be called what the data calls them.
+fn compare_names(
+    alloc: Global,
+    data: &Data<'_>,
+    goals: &Goals,
+    spelling: &Spelling<'_>,
+) -> Result<(), Stop> {
+    if are_named(alloc, data, goals, spelling)? {
+        Ok(())
     } else {
-        Err(refused(alloc, b"a goal has another name than in the declarations")?)
+        Err(refusal(alloc, b"a goal has another name than in the declarations"))
     }
 }
 
@@ -62,14 +84,16 @@ fn compare_rules(alloc: Global, data: &Data<'_>, goals: &mut Goals) -> Result<()
     if are_same_rules(alloc, goals, data.names.len(), &claims)? {
         Ok(())
     } else {
-        Err(refused(alloc, b"the rules are not those of the declarations")?)
+        Err(refusal(alloc, b"the rules are not those of the declarations"))
     }
 }
 
-fn refused(alloc: Global, reason: &[u8]) -> Result<Stop, Stop> {
+fn refusal(alloc: Global, reason: &[u8]) -> Stop {
     let mut text = Vec::new(alloc);
-    text.extend_from_slice(reason)?;
-    Ok(Stop::Refused(text))
+    match text.extend_from_slice(reason) {
+        Ok(()) => Stop::Refused(text),
+        Err(_) => Stop::Memory,
+    }
 }
 
 // The goals that the data names, by the questions that stand last.
