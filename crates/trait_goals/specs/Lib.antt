@@ -4,3 +4,4 @@ pub mod Finding
 pub mod Known
 pub mod Trying
 pub mod Rule
+pub mod Decided
