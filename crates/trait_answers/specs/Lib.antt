@@ -1,3 +1,4 @@
 pub mod Below
 pub mod Answered
+pub mod Deciding
 pub mod Asking

@@ -1,4 +1,7 @@
 //! Answers, and what is kept from one question to the next.
+ghost use Rattle.std.specs.Prelude.{◌≡◌, true};
+ghost use Rattle.trait_answers.specs.Below.{AreAllDecided};
+ghost use Rattle.trait_answers.specs.Deciding.{KeepsDeciding};
 
 use delegate_parts::Outcome;
 use search_parts::global_cache::GlobalCache;
@@ -20,4 +23,8 @@ pub struct Answered {
 pub struct Answers<L: LendsGoals> {
     pub(crate) cache: GlobalCache<GoalsDelegate<L>>,
     pub(crate) alloc: Global,
+    // Each question so far had as much depth as there are goals.
+    pub(crate) had_depth: bool,
+    // Then, where all goals are decided, what is stored never keeps a question from being answered.
+    ghost ready: { ∥ (had_depth ≡ true → AreAllDecided (L.table_of cache.cx.0.0.lender) → KeepsDeciding ⟦<usize as PartialEq>⟧.eq (L.table_of cache.cx.0.0.lender) cache) ∥₁ },
 }

@@ -1,34 +1,110 @@
 //! Whether a type implements a trait.
-ghost use Rattle.std.specs.Prelude.{◌≡◌, IfOk};
-ghost use Rattle.trait_answers.specs.Answered.{IsImplemented, IsNotImplemented};
+ghost use Rattle.std.specs.Prelude.{◌≡◌, ◌&&◌, nat_le, true, false, length, List, IfErr, IfOk};
+ghost use Rattle.trait_answers.specs.Answered.{CanBeTold, IsImplemented, IsNotImplemented, IsTold};
 ghost use Rattle.trait_answers.specs.Asking.{known_by, was_wanted};
-ghost use Rattle.trait_answers.specs.Below.{No, Yes};
+ghost use Rattle.trait_answers.specs.Below.{IsCaused, IsProved, IsRefuted, Memory, No, TwoRunsAreEnough, Yes};
+ghost use Rattle.trait_answers.specs.Deciding.{EndsDecided, EndsTold, KeepsDeciding};
 
 use crate::answers::{Answered, Answers};
 use candidate_lists::{AnyOf, ContextOf};
 use delegate_parts::{Builder, Outcome};
 use search_graph::graph::SearchGraph;
-use search_parts::context::Fault;
+use search_parts::context::{Answer, Cx, Delegate, Fault};
 use search_parts::global_cache::GlobalCache;
 use search_parts::path::PathKind;
 use std::alloc::Global;
 use trait_goals::{GoalsDelegate, GoalsOf, LendsGoals};
+use two_runs::law::{nothing_is_settled, two_runs};
+
+// A cache that has no answers yet.
+fn empty_cache<L: LendsGoals>(alloc: Global, lender: L) -> GlobalCache<GoalsDelegate<L>>
+    ensures same_goals { result.cx.0.0.lender ≡ lender }
+    ensures ready { KeepsDeciding ⟦<usize as PartialEq>⟧.eq (L.table_of lender) result }
+{
+    nothing_is_settled::<GoalsDelegate<L>>();
+    GlobalCache::new(alloc, ContextOf(AnyOf(GoalsOf { lender })))
+}
+
+// Evaluates a goal.
+fn evaluated<D: Delegate>(
+    cache: &mut GlobalCache<D>,
+    graph: &mut SearchGraph<D>,
+    goal: <D::Cx as Cx>::Input,
+    inspect: &mut D::ProofTreeBuilder,
+) -> Result<Answer<<D::Cx as Cx>::Result>, Fault<<D::Cx as Cx>::Input, <D::Cx as Cx>::Result>>
+    ensures yes { IfOk result (λ answer. D.Cx.is_yes answer.result ≡ true →
+        IsProved D.Cx.Cx cache.new goal answer.node) }
+    ensures no { IfOk result (λ answer. D.Cx.is_no answer.result ≡ true →
+        IsRefuted D.Cx.Cx cache.new goal answer.node) }
+    ensures decided { (goals : List D.Cx.Input) →
+        TwoRunsAreEnough D.Delegate D.Cx.Cx D.Cx.Input.eq goals cache.old graph.old.root_depth goal
+        (D.noop inspect.old) → graph.old.limits_met ≡ false →
+        EndsDecided D.Delegate D.Cx.Cx D.Cx.Input.eq goals cache.old.cx result graph.new.limits_met
+        cache.new }
+    ensures faults { IfErr result (IsCaused D.Delegate D.Cx.Cx D.Cx.Input.eq cache.new) }
+    ensures same_context { cache.new.cx ≡ cache.old.cx }
+{
+    two_runs::<D>();
+    graph.evaluate_goal(cache, goal, PathKind::Inductive, inspect)
+}
+
+// Asks a goal at a depth.
+fn asked<L: LendsGoals>(
+    cache: &mut GlobalCache<GoalsDelegate<L>>,
+    alloc: Global,
+    goal: usize,
+    depth: usize,
+) -> Result<Answered, Fault<usize, Outcome>>
+    ensures yes { IfOk result (λ answered. answered.outcome ≡ Yes →
+        IsImplemented (L.table_of cache.old.cx.0.0.lender) goal) }
+    ensures no { IfOk result (λ answered. answered.outcome ≡ No →
+        IsNotImplemented (L.table_of cache.old.cx.0.0.lender) goal) }
+    ensures told { CanBeTold (L.table_of cache.old.cx.0.0.lender) goal depth →
+        KeepsDeciding ⟦<usize as PartialEq>⟧.eq (L.table_of cache.old.cx.0.0.lender) cache.old →
+        EndsTold ⟦<usize as PartialEq>⟧.eq (L.table_of cache.old.cx.0.0.lender) result cache.new }
+    ensures same_context { cache.new.cx ≡ cache.old.cx }
+{
+    // This is asked for what it ensures of all goals alone.
+    let _asked = cache.cx().0.0.lender.goals().asked(goal);
+    let mut graph = SearchGraph::<GoalsDelegate<L>>::new(alloc, depth);
+    let mut builder = Builder::new(true);
+    match evaluated(cache, &mut graph, goal, &mut builder) {
+        Ok(answer) => Ok(Answered {
+            outcome: answer.result,
+            limits_met: graph.limits_met(),
+        }),
+        Err(fault) => Err(fault),
+    }
+}
+
+// Whether each question had as much depth as there are goals, with one more of this depth.
+fn has_depth(had_depth: bool, count: usize, depth: usize) -> bool
+    ensures { result ≡ (had_depth && nat_le count depth) }
+{
+    had_depth && count <= depth
+}
 
 impl<L: LendsGoals> Answers<L> {
     /// Answers about the goals that are lent. It takes no memory yet.
     pub fn new(alloc: Global, lender: L) -> Answers<L>
-        ensures { known_by L.table_of result ≡ L.table_of lender }
+        ensures goals { known_by L.table_of result ≡ L.table_of lender }
+        ensures deep { result.had_depth ≡ true }
     {
         Answers {
-            cache: GlobalCache::new(alloc, ContextOf(AnyOf(GoalsOf { lender }))),
+            cache: empty_cache(alloc, lender),
             alloc,
+            had_depth: true,
         }
     }
 
     /// Whether the type of the goal with this number implements its trait. The depth is how many
     /// goals may stand below this one on the way to an answer; as many as there are suffice.
     ///
-    /// `Fault::Memory` where memory is out. The answers can be used again after a fault.
+    /// Where all goals are decided (`Goals::are_all_decided`), and each question so far and this one
+    /// have as much depth as there are goals, the answer is yes or no.
+    ///
+    /// `Fault::Memory` where memory is out. The answers can be used again after a fault. A number
+    /// that is no goal's is answered maybe.
     pub fn implements(
         &mut self,
         goal: usize,
@@ -38,17 +114,32 @@ impl<L: LendsGoals> Answers<L> {
             IsImplemented (known_by L.table_of self.old) goal) }
         ensures no { IfOk result (λ answered. answered.outcome ≡ No →
             IsNotImplemented (known_by L.table_of self.old) goal) }
+        ensures told { self.old.had_depth ≡ true → CanBeTold (known_by L.table_of self.old) goal depth →
+            IfOk result (λ answered. IsTold (known_by L.table_of self.old) goal answered.outcome) }
+        ensures unmet { self.old.had_depth ≡ true → CanBeTold (known_by L.table_of self.old) goal depth →
+            IfOk result (λ answered. answered.limits_met ≡ false) }
+        ensures faults { self.old.had_depth ≡ true →
+            CanBeTold (known_by L.table_of self.old) goal depth → IfErr result (λ fault. fault ≡ Memory) }
+        ensures deep { self.new.had_depth ≡ (self.old.had_depth
+            && nat_le (length (known_by L.table_of self.old).asked) depth) }
         ensures same_goals { known_by L.table_of self.new ≡ known_by L.table_of self.old }
     {
-        // This is asked for what it ensures of all goals alone.
-        let _asked = self.cache.cx().0.0.lender.goals().asked(goal);
-        let mut graph = SearchGraph::<GoalsDelegate<L>>::new(self.alloc, depth);
-        let mut builder = Builder::new(true);
-        let answer = graph.evaluate_goal(&mut self.cache, goal, PathKind::Inductive, &mut builder)?;
-        Ok(Answered {
-            outcome: answer.result,
-            limits_met: graph.limits_met(),
-        })
+        let count = self.cache.cx().0.0.lender.goals().len();
+        self.had_depth = has_depth(self.had_depth, count, depth);
+        if goal >= count {
+            return Ok(Answered {
+                outcome: Outcome::Maybe,
+                limits_met: false,
+            });
+        }
+        asked(&mut self.cache, self.alloc, goal, depth)
+    }
+
+    /// Whether each question so far had as much depth as there are goals.
+    pub fn had_depth(&self) -> bool
+        ensures { result ≡ self.now.had_depth }
+    {
+        self.had_depth
     }
 
     /// Whether the candidates of the goal are not known, and a question so far came to it: a result

@@ -6,3 +6,5 @@ pub mod Queries
 pub mod Derived
 pub mod Refuted
 pub mod Steps
+pub mod Decided
+pub mod Alike

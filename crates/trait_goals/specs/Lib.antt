@@ -5,3 +5,4 @@ pub mod Finding
 pub mod Known
 pub mod Trying
 pub mod Rule
+pub mod Decided

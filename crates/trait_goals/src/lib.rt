@@ -10,10 +10,12 @@
 //! | `Instances`, `Finding` | the types that stand in the shapes of a rule, and what was found of a rule and a type |
 //! | `Trying` | what became of the rules that were tried for a goal |
 //! | `Known` | what is known of a goal, in words of rules and types |
+//! | `Decided` | tables of which each question can be answered yes or no |
 //! | `Rule` | the candidates of a goal as a search takes them |
 #![tactic(auto)]
 
 mod asked;
+mod deciding;
 mod delegate;
 mod goals;
 mod growing;

@@ -1,31 +1,79 @@
-use Rattle.std.proofs.Common.{◌≡◌, ap, rules, subst, sym}
-use Rattle.trait_answers.specs.Answered.{IsImplemented, IsNotImplemented}
-use Rattle.trait_answers.specs.Below.{AreRight, graph_nodes_of, is_no, is_yes}
-use Rattle.trait_answers.proofs.Shown.{implemented_at_node, not_implemented_at_node}
+use Rattle.std.proofs.Common.{◌≡◌, ◌&&◌, ◌<◌, nat_le, length, refl, sym, ap, ◌∙◌, subst, arith, rules}
+use Rattle.std.proofs.Math.Logic.{∥∥₁_map}
+use Rattle.trait_answers.proofs.Enough.{fault_of, ready_of, ready_still, told_of, unmet_of}
 use Rattle.trait_answers.proofs.answers.Answers.implements.Goals as goal
 
-pub returns-clause-yes : goal.returns-clause-yes
-returns-clause-yes g c = λ e.
-    let table = g.L.LendsGoals.table_of in
-    let cache = c.evaluate_goal.new.cache in
-    let shown = c.in_ok-answer.ensures.yes (ap is_yes e) in
-    let told : c.goals.result.now ≡ table c.args.self.now.cache.cx.0.0.lender =
+pub returns-then-goal-count-clause-told : goal.returns-then-goal-count-clause-told
+returns-then-goal-count-clause-told g c = λ had can.
+    let table = g.L.LendsGoals.table_of c.args.self.now.cache.cx.0.0.lender in
+    let lent : c.goals.result.now ≡ table =
     let lent = c.goals.ensures in let cx = c.cx.ensures in search rules in
-    let right = subst AreRight told c.asked-asked.ensures.right in
-    let same = c.in_ok-answer.ensures.same_context in
-    subst (λ cx. IsImplemented (table cx.0.0.lender) c.args.goal) same
-    (implemented_at_node (table cache.cx.0.0.lender) (subst (λ cx. AreRight (table cx.0.0.lender)) (sym same) right)
-    (graph_nodes_of cache.nodes) c.args.goal _ shown.graph)
+    let many : c.len-count.result ≡ length table.asked = c.len-count.ensures ∙ ap (λ t. length t.asked) lent in
+    let within : c.args.goal < length table.asked = can.is_goal in
+    absurd (omega (arith, many, within))
 
-pub returns-clause-no : goal.returns-clause-no
-returns-clause-no g c = λ e.
-    let table = g.L.LendsGoals.table_of in
-    let cache = c.evaluate_goal.new.cache in
-    let shown = c.in_ok-answer.ensures.no (ap is_no e) in
-    let told : c.goals.result.now ≡ table c.args.self.now.cache.cx.0.0.lender =
+pub returns-then-goal-count-clause-deep : goal.returns-then-goal-count-clause-deep
+returns-then-goal-count-clause-deep g c =
+    let table = g.L.LendsGoals.table_of c.args.self.now.cache.cx.0.0.lender in
+    let lent : c.goals.result.now ≡ table =
     let lent = c.goals.ensures in let cx = c.cx.ensures in search rules in
-    let right = subst AreRight told c.asked-asked.ensures.right in
-    let same = c.in_ok-answer.ensures.same_context in
-    subst (λ cx. IsNotImplemented (table cx.0.0.lender) c.args.goal) same
-    (not_implemented_at_node (table cache.cx.0.0.lender) (subst (λ cx. AreRight (table cx.0.0.lender)) (sym same) right)
-    (graph_nodes_of cache.nodes) c.args.goal _ shown.graph)
+    let many : c.len-count.result ≡ length table.asked = c.len-count.ensures ∙ ap (λ t. length t.asked) lent in
+    subst (λ n. c.has_depth-self.result ≡ (c.args.self.now.had_depth && nat_le n c.args.depth)) many c.has_depth-self.ensures
+
+pub invariant_of-self : goal.invariant_of-self
+invariant_of-self g c =
+    let old = c.args.self.now in
+    let table = g.L.LendsGoals.table_of old.cache.cx.0.0.lender in
+    let lent : c.goals.result.now ≡ table =
+    let lent = c.goals.ensures in let cx = c.cx.ensures in search rules in
+    let many : c.len-count.result ≡ length table.asked = c.len-count.ensures ∙ ap (λ t. length t.asked) lent in
+    record {
+      ready = ready_still _ table c.args.goal old.had_depth c.has_depth-self.result c.args.depth old.cache
+          (subst (λ n. c.has_depth-self.result ≡ (old.had_depth && nat_le n c.args.depth)) many c.has_depth-self.ensures)
+          old.ready;
+    }
+
+pub invariant_of-self-2 : goal.invariant_of-self-2
+invariant_of-self-2 g c =
+    let old = c.args.self.now in
+    let table = g.L.LendsGoals.table_of old.cache.cx.0.0.lender in
+    let lent : c.goals.result.now ≡ table =
+    let lent = c.goals.ensures in let cx = c.cx.ensures in search rules in
+    let many : c.len-count.result ≡ length table.asked = c.len-count.ensures ∙ ap (λ t. length t.asked) lent in
+    let less : c.args.goal < length table.asked = omega (arith, many) in
+    record {
+      ready = ready_of _ table c.args.goal old.had_depth c.has_depth-self.result c.args.depth
+          (g.L.LendsGoals.table_of c.asked.new.cache.cx.0.0.lender) c.asked.result old.cache c.asked.new.cache
+          (ap (λ cx. g.L.LendsGoals.table_of cx.0.0.lender) c.asked.ensures.same_context)
+          (subst (λ n. c.has_depth-self.result ≡ (old.had_depth && nat_le n c.args.depth)) many c.has_depth-self.ensures) less
+          c.asked.ensures.told old.ready;
+    }
+
+pub returns-clause-told : goal.returns-clause-told
+returns-clause-told g c = λ had can.
+    let old = c.args.self.now in
+    let table = g.L.LendsGoals.table_of old.cache.cx.0.0.lender in
+    told_of _ table c.args.goal c.asked.result c.asked.new.cache c.asked.ensures.yes c.asked.ensures.no
+    (∥∥₁_map old.ready (λ ready. c.asked.ensures.told can (ready had can.all)))
+
+pub returns-clause-unmet : goal.returns-clause-unmet
+returns-clause-unmet g c = λ had can.
+    let old = c.args.self.now in
+    let table = g.L.LendsGoals.table_of old.cache.cx.0.0.lender in
+    unmet_of _ table c.args.goal c.asked.result c.asked.new.cache
+    (∥∥₁_map old.ready (λ ready. c.asked.ensures.told can (ready had can.all)))
+
+pub returns-clause-faults : goal.returns-clause-faults
+returns-clause-faults g c = λ had can.
+    let old = c.args.self.now in
+    let table = g.L.LendsGoals.table_of old.cache.cx.0.0.lender in
+    fault_of _ table c.args.goal c.asked.result c.asked.new.cache
+    (∥∥₁_map old.ready (λ ready. c.asked.ensures.told can (ready had can.all)))
+
+pub returns-clause-deep : goal.returns-clause-deep
+returns-clause-deep g c =
+    let table = g.L.LendsGoals.table_of c.args.self.now.cache.cx.0.0.lender in
+    let lent : c.goals.result.now ≡ table =
+    let lent = c.goals.ensures in let cx = c.cx.ensures in search rules in
+    let many : c.len-count.result ≡ length table.asked = c.len-count.ensures ∙ ap (λ t. length t.asked) lent in
+    subst (λ n. c.has_depth-self.result ≡ (c.args.self.now.had_depth && nat_le n c.args.depth)) many c.has_depth-self.ensures
