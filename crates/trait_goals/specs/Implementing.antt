@@ -2,8 +2,9 @@
 use Rattle.std.specs.Prelude.{ℕ, List, map, Contains}
 use Rattle.search_context.specs.Question.{Overlap, Question}
 use Rattle.question_lists.specs.Derivations.{IsDerivable}
-use Rattle.trait_rules.specs.Rules.{Clause, Gives, IsInstance, Rule, Rules, bound_of, kind_of}
-use Rattle.trait_rules.specs.Terms.{Term, constructor_of}
+use Rattle.trait_rules.specs.Rules.{Gives, bound_of, kind_of}
+use Rattle.trait_rules.specs.declared.rules.Clause.{Clause}
+use Rattle.trait_goals.specs.Below.{IsInstance, Rule, Rules, Term, constructor_of}
 
 -- a question: whether the type implements the trait
 pub record Query : Type 0 where
