@@ -141,6 +141,11 @@ ANSWERED = [
     ),
     ("fn f<T>(_: T) {} fn g(x: u8, x2: &mut u8) { f(x); f(&mut x2); f::<u8>(x) }", ""),
     ("fn f<T: A>(_: T) {} trait A {} fn g(x: u8) { f(x) }", "u8: A no\n"),
+    (
+        "fn f<T: A>(_: T) {} trait A {} fn g() { f(S); f(&S); f::<S>(S) } struct S; struct R where u8: A; impl A for S {} "
+        "fn h(R: u8) { f(R) }",
+        "S: A yes\n&S: A no\nS: A yes\nu8: A no\n",
+    ),
     # parameters of functions, in their bodies
     (
         "trait A {} auto trait B {} struct S<T>(T); impl<T: A> A for S<T> {} fn a<T: A>() {} fn b<T: B>(_: T) {} "
@@ -269,6 +274,12 @@ REFUSED = [
     ("fn f() {\n let ref x: u8 = todo!();\n}", 2, "ref x"),
     ("fn f() {\n let x: _ = todo!();\n}", 2, "_"),
     ("fn f<T>(_: T) {}\nfn g() {\n f(x);\n}", 3, "x"),
+    ("fn f<T>(_: T) {}\nfn g() {\n f(S);\n}\nstruct S();", 3, "S"),
+    ("fn f<T>(_: T) {}\nfn g() {\n f(S);\n}\nstruct S {}", 3, "S"),
+    ("fn f<T>(_: T) {}\nfn g() {\n f(S);\n}\nstruct S<T>;", 3, "S"),
+    ("fn f<T>(_: T) {}\nfn g() {\n f(S);\n}\nenum S {}", 3, "S"),
+    ("fn f<T>(_: T) {}\nfn g() {\n f(u8);\n}", 3, "u8"),
+    ("fn f<T>(_: T) {}\nfn g() {\n f(f);\n}", 3, "f"),
     ("fn f<T>(_: T) {}\nfn g(x: u8) {\n f(\nx.y);\n}", 4, "."),
     ("fn f<T>(_: T) {}\nfn g(x: u8) {\n f(\n1);\n}", 4, "1"),
     ("fn f<T>(_: T) {}\nfn g(x: u8) {\n f(\n(x, x));\n}", 4, "("),

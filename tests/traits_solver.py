@@ -175,6 +175,8 @@ class Reader:
 
     def __init__(self):
         self.types, self.traits, self.impls, self.functions = {}, {}, [], {}
+        # The structs whose names are values, too, and the words for such values.
+        self.units, self.units_named = set(), []
         # Questions and calls in their order, and what holds of the parameters of functions in their bodies.
         self.asked, self.assumed, self.limit = [], [], DEFAULT_LIMIT
         # The parameters that are constants, and those that questions name, as the words for a function and for its parameter.
@@ -497,6 +499,7 @@ class Reader:
         else:
             self.where_clauses()
             fields, needs_end = (self.named_fields(), False) if self.take("{") else ([], True)
+            self.units |= {token.text} if needs_end and not self.params else set()
         if needs_end:
             self.expect(";")
         self.declare(self.types, token, (list(self.params), fields))
@@ -627,7 +630,10 @@ class Reader:
             token, type_ = self.value()
             return token, Type((kind,), (type_,))
         token = self.name()
-        type_ = self.values.get(token.text) or self.refuse("no value has this name", token)
+        if token.text not in self.values:
+            self.units_named.append(token)
+            return token, Type(("type", token.text))
+        type_ = self.values[token.text]
         if type_ == NEVER:
             self.refuse("of which type this value is where it is given rests on more", token)
         return token, type_
@@ -655,6 +661,9 @@ class Reader:
         for token in self.traits_named:
             if token.text not in self.traits:
                 self.refuse("no trait has this name", token)
+        for token in self.units_named:
+            if token.text not in self.units:
+                self.refuse("no value has this name", token)
         for function, token in self.constants_named:
             if Type(("constant", token.text, function.text)) not in self.constants:
                 self.refuse("no function with a body has this parameter", token)

@@ -24,7 +24,10 @@ const PARAMETER_LIST: &[Row] = &[
 
 const PARAMETERS_NEXT: &[Row] = &[(At(","), &[Pass, Go(ParameterList)]), (Else, &[Word(">")])];
 
-const PARAMETER_BOUNDS: &[Row] = &[(At(":"), &[Pass, Go(Bounds), Do(EndBounds)]), (Else, &[])];
+const PARAMETER_BOUNDS: &[Row] = &[
+    (At(":"), &[Pass, Go(Bounds), Do(EndBounds)]),
+    (Else, &[Do(EndBounds)]),
+];
 
 const LIFETIME_BOUNDS: &[Row] = &[(At(":"), &[Pass, Go(Outlives)]), (Else, &[])];
 

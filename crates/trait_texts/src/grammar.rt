@@ -197,7 +197,10 @@ const STRUCT_FIELDS: &[Row] = &[
     (Else, &[Go(Where), Go(StructBody)]),
 ];
 
-const STRUCT_BODY: &[Row] = &[(At("{"), &[Pass, Go(Fields)]), (Else, &[Word(";")])];
+const STRUCT_BODY: &[Row] = &[
+    (At("{"), &[Pass, Go(Fields)]),
+    (Else, &[Word(";"), Do(Unit)]),
+];
 
 const TUPLE_FIELDS: &[Row] = &[
     (At(")"), &[Pass]),

@@ -25,6 +25,8 @@ pub(crate) enum Parameter {
 pub(crate) struct Meaning {
     /// A type of this name takes so many arguments.
     pub(crate) arguments: Option<usize>,
+    /// The name of the type is its value, too.
+    pub(crate) is_unit: bool,
     /// The number of the trait of this name.
     pub(crate) bound: Option<usize>,
     /// The number of the function of this name.
@@ -37,6 +39,7 @@ pub(crate) struct Meaning {
 
 const NOTHING: Meaning = Meaning {
     arguments: None,
+    is_unit: false,
     bound: None,
     function: None,
     parameter: None,
@@ -45,6 +48,7 @@ const NOTHING: Meaning = Meaning {
 
 const BUILT_IN: Meaning = Meaning {
     arguments: Some(0),
+    is_unit: false,
     bound: None,
     function: None,
     parameter: None,
@@ -74,6 +78,8 @@ pub(crate) struct Lexicon {
     meanings: Vec<Meaning>,
     traits: Vec<Heading>,
     uses: Vec<Use>,
+    // The words for values of types that are declared elsewhere.
+    units: Vec<Word>,
     // The names that mean parameters and values of the item.
     locals: Vec<usize>,
 }
@@ -85,6 +91,7 @@ impl Lexicon {
             meanings: vec![in alloc; NOTHING; count]?,
             traits: Vec::new(alloc),
             uses: Vec::new(alloc),
+            units: Vec::new(alloc),
             locals: Vec::new(alloc),
         };
         for name in 0..PRIMITIVES.len() {
@@ -211,8 +218,41 @@ impl Lexicon {
         Ok(())
     }
 
+    /// The name of the type is its value, too.
+    pub(crate) fn set_unit(&mut self, name: usize) {
+        let mut meaning = self.meaning(name);
+        meaning.is_unit = true;
+        self.set(name, meaning);
+    }
+
+    /// The word names the value of the type of this name.
+    pub(crate) fn note_unit(&mut self, word: Word) -> Result<(), Stop> {
+        push(&mut self.units, word)?;
+        Ok(())
+    }
+
     /// Whether all that was named is declared, and types have as many arguments as parameters.
     pub(crate) fn check(&self) -> Result<(), Stop> {
+        self.check_types()?;
+        self.check_units()?;
+        for heading in self.traits.iter() {
+            if !heading.is_declared {
+                return Err(Stop::Refused(heading.word.place, Problem::UnknownTrait));
+            }
+        }
+        Ok(())
+    }
+
+    fn check_units(&self) -> Result<(), Stop> {
+        for word in self.units.iter() {
+            if !self.meaning(word.name).is_unit {
+                return Err(Stop::Refused(word.place, Problem::UnknownValue));
+            }
+        }
+        Ok(())
+    }
+
+    fn check_types(&self) -> Result<(), Stop> {
         for used in self.uses.iter() {
             match self.meaning(used.word.name).arguments {
                 Some(count) if count == used.arguments => {}
@@ -220,11 +260,6 @@ impl Lexicon {
                     return Err(Stop::Refused(used.word.place, Problem::Arguments(count)));
                 }
                 None => return Err(Stop::Refused(used.word.place, Problem::UnknownType)),
-            }
-        }
-        for heading in self.traits.iter() {
-            if !heading.is_declared {
-                return Err(Stop::Refused(heading.word.place, Problem::UnknownTrait));
             }
         }
         Ok(())

@@ -215,13 +215,18 @@ impl Program {
         number.ok_or(NoMemory)
     }
 
+    /// The type of a constructor without arguments.
+    pub(crate) fn of_none(&mut self, constructor: usize) -> Result<usize, NoMemory> {
+        self.type_of(Shape::Constructor(constructor), &[], None)
+    }
+
     /// A type of a constructor with one argument.
     pub(crate) fn of_one(
         &mut self,
         constructor: usize,
         argument: usize,
     ) -> Result<usize, NoMemory> {
-        let number = self.type_of(Shape::Constructor(constructor), &[], None)?;
+        let number = self.of_none(constructor)?;
         self.applied(number, argument)
     }
 

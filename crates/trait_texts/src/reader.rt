@@ -215,6 +215,7 @@ impl Reader {
             Doing::BeginType => self.begin_item(word, Role::Type),
             Doing::BeginBody => self.begin_item(self.item.word, Role::Body),
             Doing::NameItem => self.name_item(word),
+            Doing::Unit => self.set_unit(),
             Doing::EndType => self.end_type_item(),
             Doing::Trait(is_auto, is_coinductive) => {
                 self.declare_trait(word, is_auto, is_coinductive)
@@ -249,6 +250,13 @@ impl Reader {
 
     fn name_item(&mut self, word: Word) -> Result<(), Stop> {
         self.item.word = word;
+        Ok(())
+    }
+
+    fn set_unit(&mut self) -> Result<(), Stop> {
+        if self.item.parameters.is_empty() {
+            self.lexicon.set_unit(self.item.word.name);
+        }
         Ok(())
     }
 
@@ -465,8 +473,9 @@ impl Reader {
 
     // A value of the type `!` may be taken as one of another type, by rules that are not followed here.
     fn give(&mut self, word: Word) -> Result<(), Stop> {
-        let Some(number) = self.lexicon.meaning(word.name).value else {
-            return Err(Stop::Refused(word.place, Problem::UnknownValue));
+        let number = match self.lexicon.meaning(word.name).value {
+            Some(number) => number,
+            None => self.unit_type(word)?,
         };
         let form = Form::Path(NEVER);
         let never = self.forms.constructor(self.alloc, &mut self.program, form)?;
@@ -475,6 +484,14 @@ impl Reader {
         }
         push(&mut self.item.given, Given { word, number })?;
         Ok(())
+    }
+
+    // The type of the value which has its name.
+    fn unit_type(&mut self, word: Word) -> Result<usize, Stop> {
+        self.lexicon.note_unit(word)?;
+        let form = Form::Path(word.name);
+        let constructor = self.forms.constructor(self.alloc, &mut self.program, form)?;
+        Ok(self.program.of_none(constructor)?)
     }
 
     // The value that was given last is a reference to the one that is named.

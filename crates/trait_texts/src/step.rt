@@ -133,6 +133,8 @@ pub(crate) enum Doing {
     BeginBody,
     /// The word is the item's name.
     NameItem,
+    /// The name of the struct is a value, too, if it has no parameters.
+    Unit,
     EndType,
     /// The word is the name of a trait: whether that is an auto trait, and whether it is coinductive.
     Trait(bool, bool),
