@@ -5,6 +5,7 @@
 ghost use Rattle.std.specs.Prelude.{◌≤◌};
 
 mod arguments;
+mod causes;
 mod check;
 mod labels;
 mod program;

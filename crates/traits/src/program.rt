@@ -24,6 +24,8 @@ pub(crate) struct Answered<'a> {
     asked: Vec<usize>,
     depth: usize,
     came: Vec<Came>,
+    /// No goal was wanted at the end that is not known.
+    is_all_known: bool,
 }
 
 /// Reads the texts, and answers their questions.
@@ -41,13 +43,14 @@ pub(crate) fn ask_texts<'a>(
     } = read_texts(alloc, sources, as_rustc)?;
     let mut goals = Goals::new(alloc, rules, terms);
     let asked = all_goals(alloc, &mut goals, questions.as_slice())?;
-    let came = ask_in_rounds(alloc, &mut goals, asked.as_slice(), depth)?;
+    let round = ask_in_rounds(alloc, &mut goals, asked.as_slice(), depth)?;
     Ok(Answered {
         goals,
         spelling,
         asked,
         depth,
-        came,
+        is_all_known: round.wanted.is_empty(),
+        came: round.came,
     })
 }
 

@@ -21,11 +21,14 @@ pub(crate) struct Round {
     pub(crate) wanted: Vec<usize>,
 }
 
-/// How many goals become known before a round at most.
-const MOST: usize = 1 << 20;
-
 /// How many rounds there are at most. What is wanted after the last one stays unknown.
 const ROUNDS: usize = 64;
+
+/// Once there are so many goals, and so many more for each that is asked, no more become known. That bounds time and memory where
+/// types grow, and a text that says so much gets as far as it goes.
+const MOST: usize = 1 << 20;
+
+const MORE: usize = 16;
 
 // Asks a goal.
 fn ask<L: LendsGoals>(answers: &mut Answers<L>, goal: usize, depth: usize) -> Came
@@ -71,23 +74,25 @@ fn find_wanted<L: LendsGoals>(
     Ok(wanted)
 }
 
-/// Asks the questions of these goals at this depth, over and over, until no goal is wanted that is not known.
+/// Asks the questions of these goals at this depth, over and over, until no goal is wanted that is not known, or there are so many
+/// goals that no more become known.
 pub(crate) fn ask_in_rounds(
     alloc: Global,
     goals: &mut Goals,
     asked: &[usize],
     depth: usize,
-) -> Result<Vec<Came>, NoMemory>
-    ensures { IfOk result (λ came. AreRight goals.old asked.now came.items) }
+) -> Result<Round, NoMemory>
+    ensures { IfOk result (λ round. AreRight goals.old asked.now round.came.items) }
 {
-    make_known(alloc, goals, asked, depth, MOST)?;
+    let most = MOST.saturating_add(asked.len().saturating_mul(MORE));
+    make_known(alloc, goals, asked, depth, most)?;
     let mut round = ask_all::<&Goals>(alloc, &*goals, goals.len(), asked, depth)?;
     for _ in 0..ROUNDS {
-        if round.wanted.is_empty() {
+        if round.wanted.is_empty() || goals.len() >= most {
             break;
         }
-        make_known(alloc, goals, round.wanted.as_slice(), depth, MOST)?;
+        make_known(alloc, goals, round.wanted.as_slice(), depth, most)?;
         round = ask_all::<&Goals>(alloc, &*goals, goals.len(), asked, depth)?;
     }
-    Ok(round.came)
+    Ok(round)
 }

@@ -37,7 +37,7 @@ struct Seen {
     is_cut_off: bool,
 }
 
-/// Where a search may be.
+/// Where a search may be. A goal that is asked itself is not gone into from others: it is gone through with the whole depth anyway.
 #[derive(Drop)]
 struct Scout {
     /// The goals that are still to be asked, the next one last.
@@ -49,7 +49,7 @@ struct Scout {
     seen: Vec<Seen>,
 }
 
-/// Makes goals known that a search comes to from these at this depth, so many at most.
+/// Makes goals known that a search comes to from these at this depth, until there are so many goals.
 pub(crate) fn make_known(
     alloc: Global,
     goals: &mut Goals,
@@ -61,6 +61,9 @@ pub(crate) fn make_known(
 {
     let mut scout = Scout::new(alloc, asked, depth)?;
     for _ in 0..most {
+        if goals.len() >= most {
+            return Ok(());
+        }
         match scout.next(&*goals)? {
             Some(goal) => goals.expand(alloc, goal)?,
             None => return Ok(()),
@@ -79,6 +82,7 @@ impl Scout {
         };
         for goal in asked.iter().rev() {
             scout.asked.push(*goal)?;
+            scout.set_depth(*goal, depth)?;
         }
         Ok(scout)
     }
@@ -91,7 +95,7 @@ impl Scout {
                 (None, Some(goal)) => {
                     let goal = *goal;
                     let _asked = self.asked.pop();
-                    self.enter(goals, goal, self.depth)?
+                    self.begin(goals, goal, self.depth)?
                 }
                 (None, None) => return Ok(None),
             };
@@ -150,6 +154,21 @@ impl Scout {
         goal: usize,
         depth: usize,
     ) -> Result<Option<usize>, NoMemory> {
+        match self.seen.get(goal) {
+            Some(seen) if seen.depth > depth => {
+                let is_cut_off = seen.is_cut_off;
+                self.note(is_cut_off);
+                Ok(None)
+            }
+            _ => {
+                self.set_depth(goal, depth)?;
+                self.begin(goals, goal, depth)
+            }
+        }
+    }
+
+    // Notes that the goal is gone through with this depth.
+    fn set_depth(&mut self, goal: usize, depth: usize) -> Result<(), NoMemory> {
         for _ in self.seen.len()..goal.saturating_add(1) {
             self.seen.push(Seen {
                 depth: 0,
@@ -157,13 +176,18 @@ impl Scout {
             })?;
         }
         if let Some(seen) = self.seen.get_mut(goal) {
-            if seen.depth > depth {
-                let is_cut_off = seen.is_cut_off;
-                self.note(is_cut_off);
-                return Ok(None);
-            }
             seen.depth = depth.saturating_add(1);
         }
+        Ok(())
+    }
+
+    // Goes into the goal.
+    fn begin(
+        &mut self,
+        goals: &Goals,
+        goal: usize,
+        depth: usize,
+    ) -> Result<Option<usize>, NoMemory> {
         self.open.push(Visit {
             goal,
             depth,

@@ -1,19 +1,22 @@
 //! The line of each question.
 
 use super::Answered;
+use crate::causes::causes_of;
 use crate::labels::write_goal;
 use crate::rounds::Came;
 use crate::stop::Stop;
-use crate::table::write_table;
 use search_context::context::Fault;
 use search_context::path::PathKind;
-use shown_graphs::{Cause, causes_within};
+use shown_graphs::Cause;
 use std::alloc::Global;
 use std::io::Write;
 use trait_answers::Outcome;
 
 /// What is told beside answers where the depth has cut one off.
 const HELP: &[u8] = b"where an answer is maybe (depth), a greater recursion_limit may help\n";
+
+/// A write of its own for each line would take longer than many questions do, so this many bytes wait for each other.
+const ENOUGH: usize = 8000;
 
 /// Answers each question on a line of its own. Whether none met a fault.
 pub(crate) fn answer<W: Write, E: Write>(
@@ -22,25 +25,34 @@ pub(crate) fn answer<W: Write, E: Write>(
     out: &mut W,
     err: &mut E,
 ) -> Result<bool, Stop> {
-    let causes = causes_of(alloc, answered)?;
+    let causes = causes_of_all(alloc, answered)?;
     let mut causes = causes.iter();
     let mut is_well = true;
     let mut is_cut_off = false;
-    let mut line = Vec::new(alloc);
+    let mut lines = Vec::new(alloc);
     for (goal, came) in answered.asked.iter().zip(answered.came.iter()) {
-        line.clear();
-        write_goal(alloc, &mut line, &answered.goals, &answered.spelling, *goal)?;
-        line.extend_from_slice(word_of(*came))?;
+        write_goal(
+            alloc,
+            &mut lines,
+            &answered.goals,
+            &answered.spelling,
+            *goal,
+        )?;
+        lines.extend_from_slice(word_of(*came))?;
         if is_maybe(*came)
             && let Some(cause) = causes.next()
         {
             is_cut_off |= matches!(cause, Some(Cause::Depth { .. }));
-            line.extend_from_slice(cause_of(*cause))?;
+            lines.extend_from_slice(cause_of(*cause))?;
         }
-        line.push(b'\n')?;
+        lines.push(b'\n')?;
         is_well &= came.is_ok();
-        out.write_all(line.as_slice())?;
+        if lines.len() > ENOUGH {
+            out.write_all(lines.as_slice())?;
+            lines.clear();
+        }
     }
+    out.write_all(lines.as_slice())?;
     out.flush()?;
     if is_cut_off {
         let _ = err.write_all(HELP);
@@ -49,20 +61,20 @@ pub(crate) fn answer<W: Write, E: Write>(
 }
 
 // Why each question that came to maybe did, as far as that is seen.
-fn causes_of(alloc: Global, answered: &Answered<'_>) -> Result<Vec<Option<Cause>>, Stop> {
+fn causes_of_all(alloc: Global, answered: &Answered<'_>) -> Result<Vec<Option<Cause>>, Stop> {
     let mut unsure = Vec::new(alloc);
     for (goal, came) in answered.asked.iter().zip(answered.came.iter()) {
         if is_maybe(*came) {
             unsure.push(*goal)?;
         }
     }
-    if unsure.is_empty() {
-        return Ok(Vec::new(alloc));
-    }
-    let unsure = unsure.as_slice();
-    let text = write_table(alloc, &answered.goals, &[], unsure, answered.depth)?;
-    let causes = causes_within::<8>(alloc, text.as_slice())?;
-    Ok(causes)
+    causes_of(
+        alloc,
+        &answered.goals,
+        unsure.as_slice(),
+        answered.depth,
+        answered.is_all_known,
+    )
 }
 
 fn is_maybe(came: Came) -> bool {
