@@ -26,7 +26,8 @@ use Rattle.trait_goals.specs.declared.asked.Candidates.{Candidates}
 use Rattle.trait_goals.proofs.Queries.{known_in}
 
 -- no candidate is marked
-unmarked_map : (kind : PathKind) (all : List Candidate) → AreUnmarked (λ (a : Question ℕ). a) (map (candidate_by kind) all)
+unmarked_map : (kind : PathKind) (all : List Candidate) →
+    AreUnmarked (λ (a : Question ℕ). a) (map (candidate_by kind) all)
 unmarked_map kind [] = tt
 unmarked_map kind (c ∷ all) = (refl, unmarked_map kind all)
 
