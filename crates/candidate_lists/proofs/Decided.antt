@@ -14,7 +14,8 @@ use Rattle.candidate_lists.specs.Below.{Progress, progress_after, progress_with,
 use Rattle.candidate_lists.specs.Below.{request_after, Yes}
 use Rattle.candidate_lists.specs.Candidate.{Candidate}
 use Rattle.candidate_lists.specs.Frame.{asking, asking_in, asking_next, entering_next, ignoring, marked_from}
-use Rattle.candidate_lists.specs.Frame.{outcome_by, script_of, State, state_after, state_with, with_answer, with_ignored}
+use Rattle.candidate_lists.specs.Frame.{outcome_by, script_of, State, state_after, state_with, with_answer}
+use Rattle.candidate_lists.specs.Frame.{with_ignored}
 use Rattle.candidate_lists.specs.Laws.Members.{Contains-from_slice_get}
 use Rattle.candidate_lists.specs.Laws.Runs.{request_after-is}
 

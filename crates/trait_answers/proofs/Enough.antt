@@ -16,7 +16,8 @@ use Rattle.trait_goals.specs.Decided.{here, LeadsTo, on}
 use Rattle.trait_goals.proofs.Decided.{asked_own, asked_within, goals_are_decisive, goals_are_orderly, scripts}
 use Rattle.trait_answers.specs.Answered.{CanBeTold, IsImplemented, IsNotImplemented, IsTold}
 use Rattle.trait_answers.specs.Below.{Answer, AreAllDecided, AreDefinite, AreRight, AreSettled, Cache, CxOf, DelegateOf}
-use Rattle.trait_answers.specs.Below.{Fault, HasOneOfEach, IsCaused, IsDecisive, IsDefinite, IsEnclosed, IsMemoryOrOrder}
+use Rattle.trait_answers.specs.Below.{Fault, HasOneOfEach, IsCaused, IsDecisive, IsDefinite, IsEnclosed}
+use Rattle.trait_answers.specs.Below.{IsMemoryOrOrder}
 use Rattle.trait_answers.specs.Below.{Maybe, Memory, No, Outcome, outcome_verdicts, Overflow, StoredReachNested, Table}
 use Rattle.trait_answers.specs.Below.{TwoRunsAreEnough, verdicts, Yes}
 use Rattle.trait_answers.specs.Deciding.{EndsDecided, EndsTold, goals_of, KeepsDeciding}

@@ -1,5 +1,5 @@
 -- Goals that lead to each other ask by one kind exactly where each goal does, and those in its component that it asks.
-use Rattle.std.proofs.Common.{◌≡◌, ◌+◌, ◌<◌, ◌≤◌, ◌↔◌, ℕ, Bool, false, All, List, [], ◌∷◌, ◌++◌, length, Contains}
+use Rattle.std.proofs.Common.{◌≡◌, ◌+◌, ◌<◌, ◌↔◌, ℕ, Bool, false, All, List, [], ◌∷◌, ◌++◌, length, Contains}
 use Rattle.std.proofs.Common.{Option, None, Some, refl, sym, ap, ◌∙◌, subst, arith, inl, inr, get_or}
 use Rattle.std.specs.Global.{Vec}
 use Rattle.std.specs.Option.{option_map}
@@ -104,7 +104,8 @@ module _ (table : Table) (right : AreRight table) (graph : List (List ℕ)) (is_
     alike_along alike goal other (on {asked = asked} a rest) back =
         let step = asks_step goal asked a in
         let down = are.falls goal asked step in
-        let up = falls_along graph numbers are.falls (leads_reaches asked goal (leads_then asked other goal rest back)) in
+        let up = falls_along graph numbers are.falls
+        (leads_reaches asked goal (leads_then asked other goal rest back)) in
         let same : slice_index numbers goal ≡ slice_index numbers asked = omega (arith, down, up) in
         let e = is_graph.each in
         let w = known_within table right goal a.known a.is_known in
@@ -128,11 +129,13 @@ module _ (table : Table) (right : AreRight table) (graph : List (List ℕ)) (is_
 
     pub alike_by : AskByOneKind table → AreAllAlike table graph numbers
     alike_by one goal less = All-weaker (HasStep graph goal) (AreAlike table numbers goal)
-        (λ asked step. alike_at one goal asked less step) (get_or graph goal []) (All-contains_itself (get_or graph goal []))
+        (λ asked step. alike_at one goal asked less step) (get_or graph goal [])
+        (All-contains_itself (get_or graph goal []))
 
 -- what one goal more asks
-pub graph_more : (table : Table) (graph more : List (List ℕ)) (count : ℕ) (asked : List ℕ) → IsGraphTo table graph count →
-    more ≡ graph ++ asked ∷ [] → asked ≡ questions_at (candidates_at table count) → IsGraphTo table more (count + 1)
+pub graph_more : (table : Table) (graph more : List (List ℕ)) (count : ℕ) (asked : List ℕ) →
+    IsGraphTo table graph count → more ≡ graph ++ asked ∷ [] → asked ≡ questions_at (candidates_at table count) →
+    IsGraphTo table more (count + 1)
 graph_more table graph more count asked g is asks = record {
   each = ap length is ∙ (length_more graph asked ∙ ap (λ n. n + 1) g.each);
   at = λ goal less. subst (λ (l : List (List ℕ)). slice_get l goal ≡ Some (questions_at (candidates_at table goal)))
@@ -147,8 +150,8 @@ graph_more table graph more count asked g is asks = record {
 }
 
 -- the list at a place
-pub list_at : (graph : List (Vec ℕ)) (goal : ℕ) (asked : Vec ℕ) → goal < length graph → asked ≡ get_or graph goal asked →
-    get_or (successor_lists graph) goal [] ≡ asked.items
+pub list_at : (graph : List (Vec ℕ)) (goal : ℕ) (asked : Vec ℕ) → goal < length graph →
+    asked ≡ get_or graph goal asked → get_or (successor_lists graph) goal [] ≡ asked.items
 list_at graph goal asked less is =
     let at : slice_get graph goal ≡ Some asked = slice_get-get_or graph goal asked less ∙ ap Some (sym is) in
     get_or_from_slice_get (successor_lists graph) goal asked.items []

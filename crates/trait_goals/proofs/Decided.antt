@@ -1,6 +1,6 @@
 -- Where all goals are decided, their scripts are decisive, and no question leads out of them.
 use Rattle.std.proofs.Common.{◌≡◌, ◌<◌, ℕ, List, [], ◌∷◌, length, map, Contains, Option, None, Some, refl, sym, ap}
-use Rattle.std.proofs.Common.{◌∙◌, subst, arith}
+use Rattle.std.proofs.Common.{subst, arith}
 use Rattle.std.specs.Prelude.{slice_get, is_some, false}
 use Rattle.std.proofs.lemmas.Option.{slice_get_within}
 use Rattle.open_graphs.proofs.Members.{Contains-map, Contains-mapped}
@@ -18,7 +18,7 @@ use Rattle.candidate_lists.specs.Frame.{script_of}
 use Rattle.candidate_lists.proofs.Decided.{AreUnmarked, asked_of, decisive, orderly}
 use Rattle.trait_rules.proofs.Standing.{has_term}
 use Rattle.trait_goals.specs.Decided.{AreAllDecided, AsksGoal}
-use Rattle.trait_goals.specs.Known.{AreRight, IsKnown, Table, candidates_at, kind_at}
+use Rattle.trait_goals.specs.Known.{AreRight, Table, candidates_at, kind_at}
 use Rattle.trait_goals.specs.Rule.{asks, candidate_by, candidates_by, candidates_of, unknown_by}
 use Rattle.trait_goals.specs.declared.asked.Asked.{Asked}
 use Rattle.trait_goals.specs.declared.asked.Candidate.{Candidate}
@@ -26,7 +26,8 @@ use Rattle.trait_goals.specs.declared.asked.Candidates.{Candidates}
 use Rattle.trait_goals.proofs.Queries.{known_in}
 
 -- no candidate is marked
-unmarked_map : (kind : PathKind) (all : List Candidate) → AreUnmarked (λ (a : Question ℕ). a) (map (candidate_by kind) all)
+unmarked_map : (kind : PathKind) (all : List Candidate) →
+    AreUnmarked (λ (a : Question ℕ). a) (map (candidate_by kind) all)
 unmarked_map kind [] = tt
 unmarked_map kind (c ∷ all) = (refl, unmarked_map kind all)
 

@@ -52,7 +52,8 @@ module _ (table : Table) where
     never_unknown : (number : ℕ) → candidates_at table number ≡ None → Derives proves given number → ⊥
     never_unknown number e (derive held proved into led) =
         let asked = slice_get table.asked number in
-        let p = subst (λ o. lists.Proves (λ a. a) (candidates_by (kind_at table number) number asked o) held) e proved in
+        let p = subst (λ o. lists.Proves (λ a. a) (candidates_by (kind_at table number) number asked o) held) e
+        proved in
         let within = subst (λ c. IsWithin (lists.asked_by (λ a. a) c) held)
         (sym (unknown_is number asked p.candidate p.is_candidate)) p.within in
         let own = asks ForcedAmbiguity number in

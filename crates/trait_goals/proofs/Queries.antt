@@ -18,7 +18,8 @@ use Rattle.trait_goals.specs.declared.asked.Candidates.{Candidates}
 abbrev pub query : Term → ℕ → Query
 query subject bound = record { subject = subject; bound = bound }
 
-pub known_in : (o : Option (Option Candidates)) (known : Candidates) → unwrap_or o None ≡ Some known → o ≡ Some (Some known)
+pub known_in : (o : Option (Option Candidates)) (known : Candidates) → unwrap_or o None ≡ Some known →
+    o ≡ Some (Some known)
 known_in None known e = absurd cc
 known_in (Some p) known e = ap Some e
 

@@ -53,8 +53,8 @@ module _ (table : Table) where
         AgainstRules table.rules q (of_queries table right failed)
     against number q h known e failed refuted rule types gives is =
         let kind = kind_at table number in
-        let r = subst (λ o. lists.Refutes (λ a. a) (candidates_by kind number (slice_get table.asked number) o) failed) e
-        refuted in
+        let r = subst (λ o. lists.Refutes (λ a. a) (candidates_by kind number (slice_get table.asked number) o) failed)
+        e refuted in
         let c = (covers table right number q known h e).all rule types gives is in
         let m = Contains-map (λ x. x.questions.items) known.all.items c.questions c.is_among in
         let w = r (candidate_by kind m.0) (Contains-mapped (candidate_by kind) known.all.items m.0 m.1) in

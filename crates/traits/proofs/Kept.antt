@@ -1,6 +1,7 @@
 -- What is right of goals when more is known was right of them before.
 use Rattle.std.proofs.Common.{◌≡◌, ℕ, ◌⊎◌, inl, inr, List, [], ◌∷◌, ◌++◌, length, Option, Some, Ok, refl, sym, ◌∙◌}
-use Rattle.std.proofs.Common.{ap, subst}
+use Rattle.std.proofs.Common.{ap, subst, Bool, true, false, ◌&&◌, nat_le, ◌<◌, ◌≤◌}
+use Rattle.std.proofs.lemmas.Bool.{le-leb}
 use Rattle.std.specs.Prelude.{slice_get, Result}
 use Rattle.delegate_parts.specs.declared.outcome.Outcome.{Outcome}
 use Rattle.search_context.specs.declared.context.Fault.{Fault}
@@ -11,7 +12,7 @@ use Rattle.trait_rules.proofs.Standing.{stands_in}
 use Rattle.trait_goals.specs.Known.{IsAsked, Table}
 use Rattle.trait_goals.specs.Trying.{Extends}
 use Rattle.trait_answers.specs.Answered.{IsImplemented, IsNotImplemented}
-use Rattle.traits.specs.Right.{AreRight, IsRight}
+use Rattle.traits.specs.Right.{AreAnswered, AreRight, IsAnswered, IsRight}
 
 module _ (table more : Table) (kept : Extends table more) where
   asked_later : (goal : ℕ) (term : Term) (bound : ℕ) → IsAsked table.made table.asked goal term bound →
@@ -46,6 +47,7 @@ extends_same table = record {
   same_rules = refl;
   keeps_made = keeps_same table.made;
   keeps_asked = keeps_same table.asked;
+  keeps_known = λ goal known. known;
 }
 
 pub extends_then : (table more most : Table) → Extends table more → Extends more most → Extends table most
@@ -53,6 +55,7 @@ extends_then table more most h k = record {
   same_rules = k.same_rules ∙ h.same_rules;
   keeps_made = keeps_then h.keeps_made k.keeps_made;
   keeps_asked = keeps_then h.keeps_asked k.keeps_asked;
+  keeps_known = λ goal known. k.keeps_known goal (h.keeps_known goal known);
 }
 
 -- one more answer
@@ -73,3 +76,31 @@ right_more table goals came more goal answer h is at right = record {
 
 pub none_right : (table : Table) (goals : List ℕ) → AreRight table goals []
 none_right table goals = record { each = λ place goal answer at is. absurd cc }
+
+-- one more goal is answered
+pub answered_more : (table : Table) (goals : List ℕ) (came more : List (Result Outcome (Fault ℕ Outcome))) (goal : ℕ)
+    (answer : Result Outcome (Fault ℕ Outcome)) → AreAnswered table goals came → more ≡ came ++ answer ∷ [] →
+    slice_get goals (length came) ≡ Some goal → (goal < length table.asked → IsAnswered table goal answer) →
+    AreAnswered table goals more
+answered_more table goals came more goal answer h is at told = record {
+  each = λ place other said there within reads.
+      elim (in_longer came answer place said
+      (subst (λ (l : List (Result Outcome (Fault ℕ Outcome))). slice_get l place ≡ Some said) is reads)) [
+        | inl w ↦ h.each place other said there within w
+        | inr w ↦
+            let same : Some other ≡ Some goal = sym there ∙ subst (λ p. slice_get goals p ≡ Some goal) (sym w.0) at in
+            let so : goal ≡ other = cc in
+            subst (λ a. IsAnswered table other a) (sym w.1)
+            (subst (λ g. IsAnswered table g answer) so
+            (told (subst (λ g. g < length table.asked) (sym so) within)))
+      ];
+}
+
+pub none_answered : (table : Table) (goals : List ℕ) → AreAnswered table goals []
+none_answered table goals = record { each = λ place goal answer at within is. absurd cc }
+
+-- a question with enough depth leaves what was noted of depths
+pub still_deep : (had now : Bool) (count depth : ℕ) → now ≡ (had && nat_le count depth) → had ≡ true → count ≤ depth →
+    now ≡ true
+still_deep true now count depth is had_it deep = is ∙ le-leb count depth deep
+still_deep false now count depth is had_it deep = absurd cc

@@ -1,7 +1,8 @@
 //! Questions are asked in rounds, until all goals that they want are known.
-ghost use Rattle.std.specs.Prelude.{◌≡◌, IfOk};
+ghost use Rattle.std.specs.Prelude.{◌≡◌, ◌&&◌, nat_le, true, length, IfOk};
+ghost use Rattle.trait_answers.specs.Answered.{CanBeTold};
 ghost use Rattle.trait_answers.specs.Asking.{known_by};
-ghost use Rattle.traits.specs.Right.{AreRight, IsRight};
+ghost use Rattle.traits.specs.Right.{AreAnsweredAt, AreRight, IsAnswered, IsRight};
 
 use crate::scout::make_known;
 use search_context::context::{Fault, NoMemory};
@@ -33,6 +34,10 @@ const MORE: usize = 16;
 // Asks a goal.
 fn ask<L: LendsGoals>(answers: &mut Answers<L>, goal: usize, depth: usize) -> Came
     ensures right { IsRight (known_by L.table_of answers.old) goal result }
+    ensures told { answers.old.had_depth ≡ true → CanBeTold (known_by L.table_of answers.old) goal depth →
+        IsAnswered (known_by L.table_of answers.old) goal result }
+    ensures deep { answers.new.had_depth ≡ (answers.old.had_depth
+        && nat_le (length (known_by L.table_of answers.old).asked) depth) }
     ensures same_goals { known_by L.table_of answers.new ≡ known_by L.table_of answers.old }
 {
     let answered = answers.implements(goal, depth)?;
@@ -47,7 +52,9 @@ fn ask_all<L: LendsGoals>(
     asked: &[usize],
     depth: usize,
 ) -> Result<Round, NoMemory>
-    ensures { IfOk result (λ round. AreRight (L.table_of lender) asked.now round.came.items) }
+    ensures right { IfOk result (λ round. AreRight (L.table_of lender) asked.now round.came.items) }
+    ensures told { IfOk result (λ round.
+        AreAnsweredAt depth (L.table_of lender) asked.now round.came.items) }
 {
     let mut answers = Answers::<L>::new(alloc, lender);
     let mut came = Vec::new(alloc);
@@ -75,14 +82,16 @@ fn find_wanted<L: LendsGoals>(
 }
 
 /// Asks the questions of these goals at this depth, over and over, until no goal is wanted that is not known, or there are so many
-/// goals that no more become known.
+/// goals that no more become known. Where all goals are decided then, and are no more than the depth, each question has a yes or a
+/// no, unless memory was out.
 pub(crate) fn ask_in_rounds(
     alloc: Global,
     goals: &mut Goals,
     asked: &[usize],
     depth: usize,
 ) -> Result<Round, NoMemory>
-    ensures { IfOk result (λ round. AreRight goals.old asked.now round.came.items) }
+    ensures right { IfOk result (λ round. AreRight goals.old asked.now round.came.items) }
+    ensures told { IfOk result (λ round. AreAnsweredAt depth goals.new asked.now round.came.items) }
 {
     let most = MOST.saturating_add(asked.len().saturating_mul(MORE));
     make_known(alloc, goals, asked, depth, most)?;

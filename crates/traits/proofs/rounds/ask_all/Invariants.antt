@@ -1,6 +1,6 @@
-use Rattle.std.proofs.Common.{◌≡◌, length}
+use Rattle.std.proofs.Common.{◌≡◌, ◌≤◌, true, length}
 use Rattle.trait_answers.specs.Asking.{known_by}
-use Rattle.traits.specs.Right.{AreRight}
+use Rattle.traits.specs.Right.{AreAnsweredAt, AreRight}
 use Rattle.traits.proofs.rounds.ask_all.Given as goal
 
 abbrev pub invariant-loop-goal : goal.invariant-loop-goal
@@ -8,4 +8,6 @@ invariant-loop-goal g l = record {
   same : known_by g.L.LendsGoals.table_of l.answers ≡ g.L.LendsGoals.table_of l.fn.lender;
   count : length l.came.items ≡ l.goal-index;
   right : AreRight (g.L.LendsGoals.table_of l.fn.lender) l.asked l.came.items;
+  deep : length (g.L.LendsGoals.table_of l.fn.lender).asked ≤ l.depth → l.answers.had_depth ≡ true;
+  told : AreAnsweredAt l.depth (g.L.LendsGoals.table_of l.fn.lender) l.asked l.came.items;
 }

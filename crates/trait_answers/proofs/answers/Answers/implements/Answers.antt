@@ -18,7 +18,8 @@ returns-then-goal-count-clause-deep g c =
     let lent : c.goals.result.now ≡ table =
     let lent = c.goals.ensures in let cx = c.cx.ensures in search rules in
     let many : c.len-count.result ≡ length table.asked = c.len-count.ensures ∙ ap (λ t. length t.asked) lent in
-    subst (λ n. c.has_depth-self.result ≡ (c.args.self.now.had_depth && nat_le n c.args.depth)) many c.has_depth-self.ensures
+    subst (λ n. c.has_depth-self.result ≡ (c.args.self.now.had_depth && nat_le n c.args.depth)) many
+    c.has_depth-self.ensures
 
 pub invariant_of-self : goal.invariant_of-self
 invariant_of-self g c =
@@ -29,7 +30,8 @@ invariant_of-self g c =
     let many : c.len-count.result ≡ length table.asked = c.len-count.ensures ∙ ap (λ t. length t.asked) lent in
     record {
       ready = ready_still _ table c.args.goal old.had_depth c.has_depth-self.result c.args.depth old.cache
-          (subst (λ n. c.has_depth-self.result ≡ (old.had_depth && nat_le n c.args.depth)) many c.has_depth-self.ensures)
+          (subst (λ n. c.has_depth-self.result ≡ (old.had_depth && nat_le n c.args.depth)) many
+          c.has_depth-self.ensures)
           old.ready;
     }
 
@@ -45,7 +47,8 @@ invariant_of-self-2 g c =
       ready = ready_of _ table c.args.goal old.had_depth c.has_depth-self.result c.args.depth
           (g.L.LendsGoals.table_of c.asked.new.cache.cx.0.0.lender) c.asked.result old.cache c.asked.new.cache
           (ap (λ cx. g.L.LendsGoals.table_of cx.0.0.lender) c.asked.ensures.same_context)
-          (subst (λ n. c.has_depth-self.result ≡ (old.had_depth && nat_le n c.args.depth)) many c.has_depth-self.ensures) less
+          (subst (λ n. c.has_depth-self.result ≡ (old.had_depth && nat_le n c.args.depth)) many
+          c.has_depth-self.ensures) less
           c.asked.ensures.told old.ready;
     }
 
@@ -76,4 +79,5 @@ returns-clause-deep g c =
     let lent : c.goals.result.now ≡ table =
     let lent = c.goals.ensures in let cx = c.cx.ensures in search rules in
     let many : c.len-count.result ≡ length table.asked = c.len-count.ensures ∙ ap (λ t. length t.asked) lent in
-    subst (λ n. c.has_depth-self.result ≡ (c.args.self.now.had_depth && nat_le n c.args.depth)) many c.has_depth-self.ensures
+    subst (λ n. c.has_depth-self.result ≡ (c.args.self.now.had_depth && nat_le n c.args.depth)) many
+    c.has_depth-self.ensures

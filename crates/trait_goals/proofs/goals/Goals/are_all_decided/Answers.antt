@@ -1,4 +1,4 @@
-use Rattle.std.proofs.Common.{◌≡◌, ◌↔◌, true, sym, subst}
+use Rattle.std.proofs.Common.{◌↔◌, sym, subst}
 use Rattle.std.specs.Prelude.{IsTrue}
 use Rattle.strong_components.specs.Words.{AreComponents, StaysInside, successor_lists}
 use Rattle.trait_goals.specs.Decided.{AreAllAlike}
