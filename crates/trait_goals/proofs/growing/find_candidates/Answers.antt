@@ -1,6 +1,5 @@
 use Rattle.std.proofs.Common.{◌≡◌, sym, ap, ◌∙◌}
 use Rattle.std.specs.Option.{option_copied, option_map}
-
 use Rattle.trait_goals.specs.Below.{constructor_of}
 use Rattle.trait_goals.specs.Trying.{lists_in}
 use Rattle.trait_goals.proofs.Grown.{covered, tried_more}
