@@ -15,13 +15,6 @@ use std::io::Write;
 use trait_goals::{Asked, Goals};
 use trait_texts::{Declarations, Question, ReadFault, Source, Spelling, read};
 
-/// Once there are so many goals, and so many more for each type that is declared and each question, no more become known. In a chain
-/// of goals that is cut off at its end, each result has all goals below it, so where types grow without end, memory is taken as the
-/// square of this; a text that declares and asks much gets as far as it goes.
-const MOST_GOALS: usize = 1 << 13;
-
-const MORE_GOALS: usize = 64;
-
 /// What the texts ask, with the goals that are known of it, and what it came to.
 #[derive(Drop)]
 pub(crate) struct Answered<'a> {
@@ -48,11 +41,9 @@ pub(crate) fn ask_texts<'a>(
         depth,
         spelling,
     } = read_texts(alloc, sources, as_rustc)?;
-    let said = rules.constructors.len().saturating_add(questions.len());
-    let most = MOST_GOALS.saturating_add(said.saturating_mul(MORE_GOALS));
     let mut goals = Goals::new(alloc, rules, terms);
     let asked = all_goals(alloc, &mut goals, questions.as_slice())?;
-    let round = ask_in_rounds(alloc, &mut goals, asked.as_slice(), depth, most)?;
+    let round = ask_in_rounds(alloc, &mut goals, asked.as_slice(), depth)?;
     Ok(Answered {
         goals,
         spelling,

@@ -75,16 +75,16 @@ fn find_wanted<L: LendsGoals>(
 }
 
 /// Asks the questions of these goals at this depth, over and over, until no goal is wanted that is not known, or there are so many
-/// goals: then no more become known.
+/// goals that no more become known.
 pub(crate) fn ask_in_rounds(
     alloc: Global,
     goals: &mut Goals,
     asked: &[usize],
     depth: usize,
-    most: usize,
 ) -> Result<Round, NoMemory>
     ensures { IfOk result (λ round. AreRight goals.old asked.now round.came.items) }
 {
+    let most = MOST.saturating_add(asked.len().saturating_mul(MORE));
     make_known(alloc, goals, asked, depth, most)?;
     let mut round = ask_all::<&Goals>(alloc, &*goals, goals.len(), asked, depth)?;
     for _ in 0..ROUNDS {
