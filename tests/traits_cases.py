@@ -449,7 +449,7 @@ def long_texts():
     yield "many calls with values", f"{BASE}fn f<T: A>(_: T) {{}} fn g(x: u8) {{ {'f(x); ' * MANY} }}"
     called = "fn f<T: B>() {}"
     yield "many parameters in a body", f"{BASE}{called} fn g<{each('T{}: A + B')}>() {{ f::<T7>(); f::<(T8,)>(); }}"
-    yield "many bodies", f"{BASE}{called}{each('fn g{0}<T: B>() {{{{ f::<T>(); }}}}', ' ')}"
+    yield "many bodies", f"{BASE}{called}{each('fn g{0}<T: B>() {{ f::<T>(); }}', ' ')}"
     yield "many assumptions", f"{BASE}{called}fn g<T>() where {'L<T>: B, ' * MANY} {{ f::<L<T>>(); }}"
     yield "many traits above what is assumed", f"trait B0 {{}} {above}\nfn f<T: B0>() {{}} fn g<T: B{MANY}>() {{ f::<T>(); }}"
     yield "a long name", f"struct {'a' * MANY * 10};\nauto trait A {{}}\n{'a' * MANY * 10}: A?"
