@@ -1,5 +1,6 @@
 pub mod Newest
 pub mod OpenGoal
+pub mod Frames
 pub mod Entries
 pub mod NestedGoals
 pub mod Items

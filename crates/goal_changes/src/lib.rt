@@ -5,6 +5,7 @@
 //! | File of `specs/` | Has |
 //! |---|---|
 //! | `OpenGoal`, `Newest`, `Items` | a goal with its run, the goals with the newest first, and what becomes of the newest one |
+//! | `Frames` | the frames of the goals |
 //! | `Entries`, `NestedGoals` | what changes of its entry, and of the goals that are recorded below it |
 //! | `Steps` | the step of the newest goal's frame |
 //! | `Candidates` | a candidate is opened, finished or ignored |

@@ -4,6 +4,8 @@ use Rattle.std.proofs.Common.{sym, ap, ◌∙◌, subst, arith}
 use Rattle.open_goals.specs.Below.{DelegateOf, CxOf, Request, StackEntry, CanTake, Fault, Run, Received, IsRunFault}
 use Rattle.open_goals.specs.Below.{RunOutOfMemory, RunOutOfOrder, RunSteps}
 use Rattle.goal_changes.specs.Words.{paired, CanStep, HasStepped, IsStepFault, NoMemoryLeft, OutOfOrder}
+use Rattle.search_context.specs.Delegate.{left_open, SeesOn}
+use Rattle.goal_changes.specs.Frames.{frames_of}
 use Rattle.open_goals.proofs.Pairs.{last_pair, length_of_view}
 use Rattle.goal_changes.specs.OpenGoal.{OpenGoal}
 
@@ -59,3 +61,19 @@ module _ {D C V P F I R A T : Type 0} (G : DelegateOf D C V P F I R A T)
           OutOfOrder last.entry run frame verdict last.rest request number
           (sym is ∙ last.is ∙ ap (λ (x : Run C F I R A T). (last.entry, x) ∷ last.rest) (sym run_is))
           is_verdict steps disorderly fault_is
+
+      -- what the builder saw of the last run, it saw of the goals
+      pub last_seen : (old new : P) (r : Result (Request I R) (Fault I R))
+          → IfOk r (λ request. (below : List F) → SeesOn G.sees old new (run.frame ∷ below)
+          (left_open request (after.frame ∷ below)))
+          → IfOk r (λ request. SeesOn G.sees old new (frames_of view)
+          (left_open request (frames_of (paired [] es (slice_set fs n after)))))
+      last_seen old new (Err fault) seen = tt
+      last_seen old new (Ok request) seen =
+          let last = last_pair [] es fs n run same (omega (arith, some_run)) in
+          let was : view ≡ (last.entry, run) ∷ last.rest =
+          sym is ∙ last.is ∙ ap (λ (x : Run C F I R A T). (last.entry, x) ∷ last.rest) (sym run_is) in
+          subst (λ v. SeesOn G.sees old new (frames_of v)
+          (left_open request (frames_of (paired [] es (slice_set fs n after))))) (sym was)
+          (subst (λ v. SeesOn G.sees old new (run.frame ∷ frames_of last.rest) (left_open request (frames_of v)))
+          (sym (last.after_set after)) (seen (frames_of last.rest)))

@@ -3,6 +3,8 @@ ghost use Rattle.std.specs.Prelude.{◌≡◌, ℕ, ◌+◌, ◌^◌, ◌<◌, L
 ghost use Rattle.std.specs.List.{list_any};
 ghost use Rattle.std.specs.Option.{option_map};
 ghost use Rattle.open_goals.specs.Below.{CanTake, position_of, verdicts, IsVerdict, IsRunFault, RunSteps, no_record};
+ghost use Rattle.search_context.specs.Delegate.{left_open, SeesOn};
+ghost use Rattle.goal_changes.specs.Frames.{frames_of};
 ghost use Rattle.goal_changes.specs.Words.{CanStep, HasStepped, IsStepFault};
 
 mod candidates;
@@ -323,6 +325,8 @@ pub fn step<D: Delegate>(
         IsStepFault D.Delegate D.Cx.Cx cx received goals.old fault) }
     ensures same_starts { D.starts inspect.new ≡ D.starts inspect.old }
     ensures same_noop { D.noop inspect.new ≡ D.noop inspect.old }
+    ensures seen { IfOk result (λ request. SeesOn D.sees inspect.old inspect.new (frames_of goals.old)
+        (left_open request (frames_of goals.new))) }
 {
     let last = goals.runs.len() - 1;
     step_run::<D>(&mut goals.runs[last], cx, received, spare, inspect)

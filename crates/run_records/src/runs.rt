@@ -1,5 +1,6 @@
 //! One run of a goal: its frame, its node and its record, and the frame's next step.
-ghost use Rattle.std.specs.Prelude.{◌≡◌, All, Contains, IfOk, IfErr, None, OnOk};
+ghost use Rattle.std.specs.Prelude.{◌≡◌, ◌∷◌, All, Contains, IfOk, IfErr, List, None, OnOk};
+ghost use Rattle.search_context.specs.Delegate.{left_open, SeesOn};
 ghost use Rattle.run_records.specs.Below.{CanTake, NodeId, verdicts};
 ghost use Rattle.run_records.specs.Words.{HasRunNodes, IsRunFault, IsVerdict, RunSteps};
 
@@ -71,6 +72,8 @@ pub fn step_run<D: Delegate>(
         IsRunFault D.Delegate D.Cx.Cx cx received run.old fault) }
     ensures same_starts { D.starts inspect.new ≡ D.starts inspect.old }
     ensures same_noop { D.noop inspect.new ≡ D.noop inspect.old }
+    ensures seen { IfOk result (λ request. (below : List D.Frame) → SeesOn D.sees inspect.old inspect.new
+        (run.old.frame ∷ below) (left_open request (run.new.frame ∷ below))) }
 {
     let verdict = sort_of(cx, received.reply);
     spare.lend_lists(&mut run.progress, received.reply);

@@ -1,7 +1,8 @@
 -- What the laws of a context and a delegate say of results, frames and builders.
-use Rattle.std.specs.Prelude.{◌≡◌, ℕ, ◌+◌, ◌≤◌, Bool, false, List, ◌∷◌, ◌⊎◌}
+use Rattle.std.specs.Prelude.{◌≡◌, ℕ, ◌+◌, ◌≤◌, Bool, false, List, [], ◌∷◌, ◌⊎◌, Option, None, Some}
 use Rattle.search_context.specs.Below.{PathKind, is_inductive, is_coinductive}
 use Rattle.search_context.specs.declared.context.Request.{Request}
+use Rattle.search_context.specs.declared.context.Request.TheVariants.{Done, EnterCandidate, Evaluate, FinishCandidate, Ignore}
 use Rattle.search_context.specs.declared.context.Reply.{Reply}
 use Rattle.search_context.specs.Run.{IsFitting}
 
@@ -41,3 +42,26 @@ pub record KeepsBuilder {P : Type 0} (starts : P → ℕ) (noop : P → Bool) (o
 -- one more was counted, unless the count has come to its end
 abbrev pub CountsOne : ℕ → ℕ → ℕ → Type 0
 CountsOne last old new = (new ≡ old + 1) ⊎ ((old ≡ last) × (new ≡ last))
+
+-- the frames that are open, where any was started
+abbrev pub frames_in : {F : Type 0} → Option (List F) → List F
+frames_in None = []
+frames_in (Some frames) = frames
+
+-- the frames without the newest one
+abbrev pub without_newest : {F : Type 0} → List F → List F
+without_newest [] = []
+without_newest (frame ∷ below) = below
+
+-- the frames that are open after this request of the newest one, which is not once its run has its result
+abbrev pub left_open : {I R F : Type 0} → Request I R → List F → List F
+left_open (Done result) frames = without_newest frames
+left_open (Evaluate kind goal) frames = frames
+left_open EnterCandidate frames = frames
+left_open FinishCandidate frames = frames
+left_open (Ignore number) frames = frames
+
+-- where the builder had seen a call come to where some frames are open, it has seen it come to where others are
+pub record SeesOn {P I F : Type 0} (sees : P → I → Option (List F) → Type 0) (old new : P) (before after : List F) :
+    Type 0 where
+  pub at : (goal : I) → sees old goal (Some before) → sees new goal (Some after)

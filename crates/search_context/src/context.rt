@@ -1,8 +1,8 @@
 //! What a goal search is told of goals: the context, the delegate, requests and replies.
-ghost use Rattle.std.specs.Prelude.{◌≡◌, ◌↔◌, ◌≤◌, ◌<◌, ◌+◌, ℕ, true, false, Bool, List, [], ◌∷◌, IsTrue, IsSome, IfSome, IfOk, OnOk, Some, None, Option};
+ghost use Rattle.std.specs.Prelude.{◌≡◌, ◌↔◌, ◌≤◌, ◌<◌, ◌+◌, ℕ, true, false, Bool, List, [], ◌∷◌, IsTrue, IsSome, IfSome, IfOk, OnOk, Ok, Some, None, Option};
 ghost use Rattle.search_context.specs.Question.{Question, IsWithin, Overlap};
 ghost use Rattle.search_context.specs.Run.{EndsIn, progress_after, questions_answered};
-ghost use Rattle.search_context.specs.Delegate.{IsNeither, IsCycleResult, CanTake, Steps, CountsOne};
+ghost use Rattle.search_context.specs.Delegate.{IsNeither, IsCycleResult, CanTake, Steps, CountsOne, frames_in, left_open};
 
 use crate::path::PathKind;
 pub use path_kinds::memory::NoMemory;
@@ -252,6 +252,10 @@ pub trait Delegate: Sized {
     /// The goal's stored result is to be validated.
     ghost scoped: { Self.Cx → Self.Cx.Input → Bool };
 
+    /// What the builder has seen of a call that works this goal out: these frames are open, the newest first, or none was
+    /// started yet. Where a builder records, this ties the record to the frames; by default it says nothing.
+    ghost sees: { Self.ProofTreeBuilder → Self.Cx.Input → Option (List Self.Frame) → Type 0 } = { λ _ _ _. Unit {0} };
+
     /// A scope, if the goal's stored result is to be validated.
     fn enter_validation_scope(
         cx: Self::Cx,
@@ -263,7 +267,9 @@ pub trait Delegate: Sized {
     fn inspect_is_noop(inspect: &mut Self::ProofTreeBuilder) -> bool
         ensures value { result ≡ noop inspect.old }
         ensures same_noop { noop inspect.new ≡ noop inspect.old }
-        ensures same_starts { starts inspect.new ≡ starts inspect.old };
+        ensures same_starts { starts inspect.new ≡ starts inspect.old }
+        ensures seen { (goal : Self.Cx.Input) (frames : Option (List Self.Frame)) → sees inspect.old goal frames
+            → sees inspect.new goal frames };
 
     /// What a goal's cycles of this kind are answered with in its first run.
     fn initial_provisional_result(
@@ -317,7 +323,10 @@ pub trait Delegate: Sized {
         ensures at_most { starts inspect.new ≤ starts inspect.old + 1 }
         ensures counted { counts ≡ true
             → OnOk result (CountsOne last (starts inspect.old) (starts inspect.new)) }
-        ensures same_noop { noop inspect.new ≡ noop inspect.old };
+        ensures same_noop { noop inspect.new ≡ noop inspect.old }
+        ensures seen { (frame : Self.Frame) → result ≡ Ok frame → (goal : Self.Cx.Input) (frames : Option (List Self.Frame))
+            → sees inspect.old goal frames → (frames ≡ None → goal ≡ input)
+            → sees inspect.new goal (Some (frame ∷ frames_in frames)) };
 
     /// The frame's next request. After a refusal nothing is known of the frame.
     fn step(
@@ -330,7 +339,10 @@ pub trait Delegate: Sized {
             Steps stands script frame.old reply request frame.new) }
         ensures falls { OnOk result (left frame.new < left frame.old) }
         ensures same_starts { starts inspect.new ≡ starts inspect.old }
-        ensures same_noop { noop inspect.new ≡ noop inspect.old };
+        ensures same_noop { noop inspect.new ≡ noop inspect.old }
+        ensures seen { (request : Request Self.Cx.Input Self.Cx.Result) → result ≡ Ok request → (goal : Self.Cx.Input)
+            (below : List Self.Frame) → sees inspect.old goal (Some (frame.old ∷ below))
+            → sees inspect.new goal (Some (left_open request (frame.new ∷ below))) };
 
     /// A frame of the goal for a run that is replayed beside the search: no builder sees it, and it counts as no run. A
     /// search of many runs replays some of them, to find out on how few answers their results may rest, and so holds

@@ -1,5 +1,5 @@
 //! Which provisional entries and stored results may be used where goals are under evaluation.
-ghost use Rattle.std.specs.Prelude.{◌≡◌, ◌≢◌, ◌<◌, [], length, All, IfSome, is_some};
+ghost use Rattle.std.specs.Prelude.{◌≡◌, ◌≢◌, ◌<◌, [], length, All, IfSome, List, Option, is_some};
 ghost use Rattle.std.specs.List.{list_any};
 ghost use Rattle.std.specs.Option.{option_copied, option_map};
 ghost use Rattle.search_rules.specs.Below.{highest, paths_at, HasGraph, first_accepted, hit_of, usable, entries_at, verdicts};
@@ -196,6 +196,8 @@ pub fn consult<'a, D: Delegate>(
     ensures scope { is_some result.scope ≡ is_compared result.fate }
     ensures builder { KeepsBuilder D.starts D.noop inspect.old inspect.new }
     ensures same_starts { D.starts inspect.new ≡ D.starts inspect.old }
+    ensures seen { (goal : D.Cx.Input) (frames : Option (List D.Frame)) → D.sees inspect.old goal frames →
+        D.sees inspect.new goal frames }
 {
     if !D::inspect_is_noop(inspect) {
         return Consulted {

@@ -1,6 +1,6 @@
 use Rattle.std.proofs.Common.{arith, ◌-◌, ◌∙◌, sym, length-set}
 use Rattle.open_goals.proofs.Changes.{some_runs}
-use Rattle.open_goals.proofs.Steps.{last_can_take, last_stepped, last_failed}
+use Rattle.open_goals.proofs.Steps.{last_can_take, last_failed, last_seen, last_stepped}
 use Rattle.open_goals.proofs.goals.step.Goals as goal
 
 pub overflow_sub-last : goal.overflow_sub-last
@@ -42,3 +42,10 @@ returns-clause-fault g c =
     c.goals.invariant c.goals.view_is c.requires.some c.requires.can_step (c.len-last.result - 1) c.index_mut.result.now
     (omega (arith, c.len-last.ensures)) c.index_mut.ensures.value c.step_run.new.run
     c.step_run.result c.step_run.ensures.fault
+
+pub returns-clause-seen : goal.returns-clause-seen
+returns-clause-seen g c =
+    last_seen g.D.Delegate g.D.Cx.Cx c.args.cx c.args.received c.goals.inside.stack c.goals.inside.runs.items _
+    c.goals.invariant c.goals.view_is c.requires.some c.requires.can_step (c.len-last.result - 1) c.index_mut.result.now
+    (omega (arith, c.len-last.ensures)) c.index_mut.ensures.value c.step_run.new.run c.args.inspect.now
+    c.step_run.new.inspect c.step_run.result c.step_run.ensures.seen

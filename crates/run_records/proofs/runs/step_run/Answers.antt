@@ -26,3 +26,8 @@ returns-clause-stepped g c =
       falls = c.in_ok-request.ensures.falls;
       steps = c.in_ok-request.ensures.request;
     }
+
+pub returns-clause-seen : goal.returns-clause-seen
+returns-clause-seen g c below = record {
+  at = λ root seen. c.in_ok-request.ensures.seen c.in_ok-request.request refl root below seen;
+}
