@@ -6,22 +6,14 @@ ghost use Rattle.std.specs.Prelude.{◌≤◌};
 
 mod arguments;
 mod causes;
-mod check;
-mod labels;
 mod program;
 mod rounds;
-mod scout;
-mod stop;
-mod table;
-mod text;
 
-use arguments::{How, order_of};
-use check::check;
+use arguments::{How, USAGE, order_of};
 use program::{answer, ask_texts, show, tell_rules};
 use std::io;
 use std::process::ExitCode;
-use stop::{Stop, status_told};
-use text::{Text, read_file, read_texts, sources_of};
+use trait_pages::{Stop, Text, check, read_file, read_texts, sources_of, status_told};
 
 fn main(rt: HostRuntime) -> ExitCode {
     ExitCode::from(run(&rt))
@@ -35,9 +27,9 @@ fn run(rt: &HostRuntime) -> u8
 {
     let words = match all_words(rt) {
         Ok(words) => words,
-        Err(_) => return status_told(Err(Stop::InputOrOutput), rt.stderr()),
+        Err(_) => return status_told(Err(Stop::InputOrOutput), USAGE, rt.stderr()),
     };
-    status_told(perform(rt, words.as_slice()), rt.stderr())
+    status_told(perform(rt, words.as_slice()), USAGE, rt.stderr())
 }
 
 // The program's name and its arguments.

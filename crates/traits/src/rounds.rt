@@ -4,11 +4,10 @@ ghost use Rattle.trait_answers.specs.Answered.{CanBeTold};
 ghost use Rattle.trait_answers.specs.Asking.{known_by};
 ghost use Rattle.traits.specs.Right.{AreAnsweredAt, AreRight, IsAnswered, IsRight};
 
-use crate::scout::make_known;
 use search_context::context::{Fault, NoMemory};
 use std::alloc::Global;
 use trait_answers::{Answers, Outcome};
-use trait_goals::{Goals, LendsGoals};
+use trait_goals::{Goals, LendsGoals, make_known};
 
 /// What a question came to.
 pub(crate) type Came = Result<Outcome, Fault<usize, Outcome>>;

@@ -2,15 +2,14 @@
 
 use super::Answered;
 use crate::causes::causes_of;
-use crate::labels::write_goal;
 use crate::rounds::Came;
-use crate::stop::Stop;
 use search_context::context::Fault;
 use search_context::path::PathKind;
 use shown_graphs::Cause;
 use std::alloc::Global;
 use std::io::Write;
 use trait_answers::Outcome;
+use trait_pages::Stop;
 
 /// What is told beside answers where the depth has cut one off.
 const HELP: &[u8] = b"where an answer is maybe (depth), a greater recursion_limit may help\n";
@@ -29,15 +28,10 @@ pub(crate) fn answer<W: Write, E: Write>(
     let mut causes = causes.iter();
     let mut is_well = true;
     let mut is_cut_off = false;
+    let names = answered.names(false);
     let mut lines = Vec::new(alloc);
     for (goal, came) in answered.asked.iter().zip(answered.came.iter()) {
-        write_goal(
-            alloc,
-            &mut lines,
-            &answered.goals,
-            &answered.spelling,
-            *goal,
-        )?;
+        names.write(alloc, &mut lines, *goal)?;
         lines.extend_from_slice(word_of(*came))?;
         if is_maybe(*came)
             && let Some(cause) = causes.next()
