@@ -1,4 +1,7 @@
 //! What texts declare and ask.
+ghost use Rattle.std.specs.Prelude.{IfOk};
+ghost use Rattle.trait_goals.specs.Trying.{Extends};
+ghost use Rattle.trait_pages.specs.Asked.{AreGoalsOf};
 
 use crate::stop::Stop;
 use search_context::context::NoMemory;
@@ -28,7 +31,11 @@ pub fn all_goals(
     alloc: Global,
     goals: &mut Goals,
     questions: &[Question],
-) -> Result<Vec<usize>, NoMemory> {
+) -> Result<Vec<usize>, NoMemory>
+    ensures extends { Extends goals.old goals.new }
+    ensures asked { IfOk result (λ numbers.
+        AreGoalsOf goals.old.made goals.new questions.now numbers.items) }
+{
     let mut asked = Vec::new(alloc);
     for question in questions {
         let goal = goals.goal(Asked {

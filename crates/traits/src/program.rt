@@ -2,13 +2,13 @@
 
 mod answering;
 
-use crate::rounds::{Came, ask_in_rounds};
+use crate::rounds::ask_in_rounds;
 pub(crate) use answering::answer;
 use shown_graphs::{Form, NoProgress, show_text};
 use std::alloc::Global;
 use std::io::Write;
 use trait_goals::Goals;
-use trait_pages::{Names, Stop, all_goals, declared_in, write_names, write_table};
+use trait_pages::{Came, Names, Stop, all_goals, declared_in, write_names, write_table};
 use trait_texts::{Declarations, Source, Spelling};
 
 /// What the texts ask, with the goals that are known of it, and what it came to.

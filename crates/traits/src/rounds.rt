@@ -4,13 +4,11 @@ ghost use Rattle.trait_answers.specs.Answered.{CanBeTold};
 ghost use Rattle.trait_answers.specs.Asking.{known_by};
 ghost use Rattle.traits.specs.Right.{AreAnsweredAt, AreRight, IsAnswered, IsRight};
 
-use search_context::context::{Fault, NoMemory};
+use search_context::context::NoMemory;
 use std::alloc::Global;
-use trait_answers::{Answers, Outcome};
+use trait_answers::Answers;
 use trait_goals::{Goals, LendsGoals, make_known};
-
-/// What a question came to.
-pub(crate) type Came = Result<Outcome, Fault<usize, Outcome>>;
+use trait_pages::Came;
 
 /// What the questions came to.
 #[derive(Drop)]
