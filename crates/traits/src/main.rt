@@ -10,10 +10,10 @@ mod program;
 mod rounds;
 
 use arguments::{How, USAGE, order_of};
-use program::{answer, ask_texts, show, tell_rules};
+use program::{answer, ask_declared, show, tell_rules};
 use std::io;
 use std::process::ExitCode;
-use trait_pages::{Stop, Text, check, read_file, read_texts, sources_of, status_told};
+use trait_pages::{Stop, Text, check, declared_in, read_file, read_texts, sources_of, status_told};
 
 fn main(rt: HostRuntime) -> ExitCode {
     ExitCode::from(run(&rt))
@@ -72,7 +72,8 @@ fn perform_check(rt: &HostRuntime, files: &[&str], as_rustc: bool) -> Result<boo
 fn tell(rt: &HostRuntime, how: How, texts: &[Text<'_>], as_rustc: bool) -> Result<bool, Stop> {
     let alloc = rt.alloc();
     let sources = sources_of(alloc, texts)?;
-    let answered = ask_texts(alloc, sources.as_slice(), as_rustc)?;
+    let declared = declared_in(alloc, sources.as_slice(), as_rustc)?;
+    let answered = ask_declared(alloc, declared)?;
     let mut out = rt.stdout();
     match (how.form(), how) {
         (Some(form), _) => show(alloc, &answered, form, &mut out),

@@ -1,4 +1,6 @@
-//! What the program does with texts that were read.
+//! What the program does with what was declared.
+ghost use Rattle.std.specs.Prelude.{IfOk};
+ghost use Rattle.traits.specs.True.{AreTrue};
 
 mod answering;
 
@@ -8,8 +10,8 @@ use shown_graphs::{Form, NoProgress, show_text};
 use std::alloc::Global;
 use std::io::Write;
 use trait_goals::Goals;
-use trait_pages::{Came, Names, Stop, all_goals, declared_in, write_names, write_table};
-use trait_texts::{Declarations, Source, Spelling};
+use trait_pages::{Came, Names, Stop, all_goals, write_names, write_table};
+use trait_texts::{Declarations, Spelling};
 
 /// What the texts ask, with the goals that are known of it, and what it came to.
 #[derive(Drop)]
@@ -35,19 +37,21 @@ impl<'a> Answered<'a> {
     }
 }
 
-/// Reads the texts, and answers their questions.
-pub(crate) fn ask_texts<'a>(
+/// Answers the questions of what was declared.
+pub(crate) fn ask_declared<'a>(
     alloc: Global,
-    sources: &[Source<'a>],
-    as_rustc: bool,
-) -> Result<Answered<'a>, Stop> {
+    declared: Declarations<'a>,
+) -> Result<Answered<'a>, Stop>
+    ensures { IfOk result (λ answered. AreTrue declared.rules declared.terms declared.questions.items
+        answered.came.items) }
+{
     let Declarations {
         rules,
         terms,
         questions,
         depth,
         spelling,
-    } = declared_in(alloc, sources, as_rustc)?;
+    } = declared;
     let mut goals = Goals::new(alloc, rules, terms);
     let asked = all_goals(alloc, &mut goals, questions.as_slice())?;
     let round = ask_in_rounds(alloc, &mut goals, asked.as_slice(), depth)?;

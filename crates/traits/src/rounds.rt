@@ -52,6 +52,7 @@ fn ask_all<L: LendsGoals>(
     ensures right { IfOk result (λ round. AreRight (L.table_of lender) asked.now round.came.items) }
     ensures told { IfOk result (λ round.
         AreAnsweredAt depth (L.table_of lender) asked.now round.came.items) }
+    ensures count { IfOk result (λ round. length round.came.items ≡ length asked.now) }
 {
     let mut answers = Answers::<L>::new(alloc, lender);
     let mut came = Vec::new(alloc);
@@ -89,6 +90,7 @@ pub(crate) fn ask_in_rounds(
 ) -> Result<Round, NoMemory>
     ensures right { IfOk result (λ round. AreRight goals.old asked.now round.came.items) }
     ensures told { IfOk result (λ round. AreAnsweredAt depth goals.new asked.now round.came.items) }
+    ensures count { IfOk result (λ round. length round.came.items ≡ length asked.now) }
 {
     let most = MOST.saturating_add(asked.len().saturating_mul(MORE));
     make_known(alloc, goals, asked, depth, most)?;

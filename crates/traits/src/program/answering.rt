@@ -1,4 +1,7 @@
 //! The lines of the questions.
+ghost use Rattle.std.specs.Prelude.{◌≡◌, is_ok, IfOk, OnOk};
+ghost use Rattle.std.specs.List.{list_all};
+ghost use Rattle.trait_pages.specs.Lines.{AreAllTold};
 
 use super::Answered;
 use crate::causes::causes_of;
@@ -16,7 +19,10 @@ pub(crate) fn answer<W: Write, E: Write>(
     answered: &Answered<'_>,
     out: &mut W,
     err: &mut E,
-) -> Result<bool, Stop> {
+) -> Result<bool, Stop>
+    ensures told { OnOk result (AreAllTold answered.now.came.items (W.contents out.old) (W.contents out.new)) }
+    ensures fine { IfOk result (λ fine. fine ≡ list_all is_ok answered.now.came.items) }
+{
     let causes = causes_of_all(alloc, answered)?;
     tell_all(
         alloc,
