@@ -1,5 +1,5 @@
 -- What becomes of the frames of the goals under evaluation, and of what the builder has seen of them.
-use Rattle.std.proofs.Common.{◌≡◌, ◌<◌, List, [], ◌∷◌, Option, None, Some, length, arith, refl, sym, ap, ◌∙◌, subst}
+use Rattle.std.proofs.Common.{◌≡◌, ◌<◌, List, [], ◌∷◌, Option, None, Some, length, arith, sym, ap, ◌∙◌, subst}
 use Rattle.search_context.specs.Delegate.{SeesOn, without_newest}
 use Rattle.search_context.specs.declared.context.NodeId.{NodeId}
 use Rattle.search_context.specs.declared.context.Request.{Request}
@@ -38,12 +38,12 @@ module _ {X F I R A T : Type 0} where
   noted_frames (Done r) old new h = ap frames_of h
 
   -- a goal that is run again has the frame of the new run
-  pub reran_frames : (r : R) (target : Option NodeId) (frame : F) (own : NodeId) (old : List (OpenGoal X F I R A T))
-      → 0 < length old
-      → frame ∷ without_newest (frames_of old)
-      ≡ frames_of (change_newest (rerun_with r target frame own) (change_newest with_no_record old))
-  reran_frames r target frame own [] some = absurd (omega (arith, some))
-  reran_frames r target frame own (s ∷ below) some = refl
+  pub reran_frames : (r : R) (target : Option NodeId) (frame : F) (own : NodeId) (old mid new : List (OpenGoal X F I R A T))
+      → 0 < length old → mid ≡ change_newest with_no_record old → new ≡ change_newest (rerun_with r target frame own) mid
+      → frame ∷ without_newest (frames_of old) ≡ frames_of new
+  reran_frames r target frame own [] mid new some taken runs = absurd (omega (arith, some))
+  reran_frames r target frame own (s ∷ below) mid new some taken runs =
+      sym (ap frames_of (runs ∙ ap (change_newest (rerun_with r target frame own)) taken))
 
   -- a goal that is popped leaves those of the others
   pub popped_frames : (r : R) (old : List (OpenGoal X F I R A T)) (next : Next R) (new : List (OpenGoal X F I R A T))

@@ -197,10 +197,10 @@ returns-clause-earlier g c =
 pub returns-clause-seen : goal.returns-clause-seen
 returns-clause-seen g c = record {
   at = λ root seen.
-      subst (λ l. g.D.Delegate.sees c.start-frame.new.inspect root (Some l))
-      (reran_frames c.args.outcome _ c.in_ok-frame.frame c.in_ok-own_node.own_node c.args.evaluation.now.goals c.requires.some
-      ∙ sym (ap (λ l. frames_of (change_newest (rerun_with _ _ c.in_ok-frame.frame _) l))
-      c.take_progress-progress.ensures.left) ∙ sym (ap frames_of c.run_again.ensures))
+      subst (λ l. g.D.Delegate.sees c.start.new.inspect root (Some l))
+      (reran_frames c.args.outcome _ c.in_ok-frame.frame c.in_ok-own_node.own_node c.args.evaluation.now.goals
+      c.take_progress-progress.new.self c.run_again.new.self c.requires.some c.take_progress-progress.ensures.left
+      c.run_again.ensures)
       (c.in_ok-frame.ensures.seen c.in_ok-frame.frame refl root
       (Some (without_newest (frames_of c.args.evaluation.now.goals))) seen (λ none. absurd cc));
 }

@@ -27,7 +27,7 @@ returns-clause-fates g c = ap (λ l. fates_of l) c.in_ok-push.ensures.ok ∙ ap 
 pub returns-clause-seen : goal.returns-clause-seen
 returns-clause-seen g c = record {
   at = λ root frames seen first below.
-      subst (λ l. g.D.Delegate.sees c.start-frame.new.inspect root (Some l))
+      subst (λ l. g.D.Delegate.sees c.start.new.inspect root (Some l))
       (ap (λ l. c.in_ok-frame.frame ∷ l) below ∙ sym (ap frames_of c.in_ok-push.ensures.ok))
       (c.in_ok-frame.ensures.seen c.in_ok-frame.frame refl root frames seen first);
 }
