@@ -1,7 +1,8 @@
 -- Where the call has its answer, no goal is left.
 use Rattle.std.proofs.Common.{◌≡◌, List, [], ◌∷◌, Result, Ok, Err, IfOk, Bool, ℕ}
 use Rattle.search_ends.specs.Words.{EndedAtLimit, EndedDone, NotRunAgain, RanAgain, RunEnds}
-use Rattle.search_graph.specs.Below.{Answer, Cache, CxOf, DelegateOf, Fault, Finished, Next, OpenGoal, Received, Step}
+use Rattle.search_graph.specs.Below.{Cache, CxOf, DelegateOf, Fault, Finished, Next, OpenGoal, Received, Step}
+use Rattle.search_context.specs.declared.context.Answer.{Answer}
 use Rattle.search_graph.specs.Ran.{Advanced, Asked, FrameFailed, NotAsked, Noted, NotNoted, RunEnded}
 use Rattle.search_graph.specs.Ran.{Answered, Failed, FailedForGood, GoesOn, IfEnd, NotAnswered, Turned}
 use Rattle.search_rules.specs.Moves.{NewestLeaves}
