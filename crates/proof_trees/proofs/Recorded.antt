@@ -1,6 +1,6 @@
 -- What is recorded, as frames start and step; and that the entries are whole once no run is left open.
-use Rattle.std.proofs.Common.{◌≡◌, ◌∙◌, ℕ, ◌-◌, ◌&&◌, Bool, false, true, List, [], ◌∷◌, ◌++◌, length, map, slice_get}
-use Rattle.std.proofs.Common.{Option, None, Some, ap, arith, refl, subst, suc, sym, length-append}
+use Rattle.std.proofs.Common.{◌≡◌, ◌∙◌, ◌-◌, ◌&&◌, Bool, false, true, List, [], ◌∷◌, ◌++◌, length, slice_get}
+use Rattle.std.proofs.Common.{Option, None, Some, ap, arith, refl, subst, suc, sym}
 use Rattle.std.specs.Option.{option_map, option_map_or}
 use Rattle.search_context.specs.Delegate.{frames_in, left_open}
 use Rattle.proof_trees.specs.Below.{Reply, Request, Done, EnterCandidate, Evaluate, FinishCandidate, Ignore}
@@ -110,7 +110,8 @@ module _ {I R : Type 0} (goal : I) where
   begins_on : (entries more : List (Entry I R)) → Begins entries → Begins (entries ++ more)
   begins_on entries more begins = (begins.0 ++ more, ap (λ es. es ++ more) begins.1)
 
-  begins_and : (entries : List (Entry I R)) (entry : Option (Entry I R)) → Begins entries → Begins (and_entry entries entry)
+  begins_and : (entries : List (Entry I R)) (entry : Option (Entry I R)) → Begins entries
+      → Begins (and_entry entries entry)
   begins_and entries None begins = begins
   begins_and entries (Some entry) begins = begins_on entries (entry ∷ []) begins
 
@@ -128,7 +129,8 @@ module _ {I R : Type 0} (goal : I) where
 
   started : (runs : Option (List (RunRecord I R))) (next : Place) (entries : List (Entry I R)) (asked : I)
       → Stands runs next entries → (runs ≡ None → goal ≡ asked)
-      → Stands (Some (new_record asked next ∷ frames_in runs)) next (entries ++ entry_of_run (new_record asked next) ∷ [])
+      → Stands (Some (new_record asked next ∷ frames_in runs)) next
+      (entries ++ entry_of_run (new_record asked next) ∷ [])
   started None next entries asked stands first =
       let entry : I → Place → Entry I R = λ g p. let run : RunRecord I R = new_record g p in entry_of_run run in (
         (
@@ -151,7 +153,8 @@ module _ {I R : Type 0} (goal : I) where
         stands.1,
         (noted, r, ap (λ level. noted ++ record { level = one_more level; part = RunEnd r } ∷ []) stands.1),
       )
-  stepped run (other ∷ below) next entries reply (Done r) stands = (begins_after run entries reply (Done r) stands.0, stands.1)
+  stepped run (other ∷ below) next entries reply (Done r) stands =
+      (begins_after run entries reply (Done r) stands.0, stands.1)
   stepped run below next entries reply (Evaluate kind asked) stands =
       (begins_after run entries reply (Evaluate kind asked) stands.0, still_at run _ below refl stands.1)
   stepped run below next entries reply EnterCandidate stands =

@@ -12,20 +12,20 @@ use Rattle.proof_trees.specs.Entries.{entry_of_reply, entry_of_request, entry_of
 use Rattle.proof_trees.specs.Entries.{record_after, root_place}
 use Rattle.proof_trees.specs.Recorder.{and_entry, entries_of, next_of, records}
 
--- What is recorded of a call that works the goal out: these runs are open, the newest first, or none was started yet; the
--- next one that starts stands at the place; and these are the entries so far.
+-- What is recorded of a call that works the goal out: these runs are open, the newest first, or none was started yet;
+-- the next one that starts stands at the place; and these are the entries so far.
 pub data Recorded {I R : Type 0} (goal : I) : Option (List (RunRecord I R)) → Place → List (Entry I R) → Type 0 where
   -- nothing yet
   Nothing : Recorded goal None root_place []
-  -- A run was started, which is the newest one that is open: the entry is that of the run. The first run of all is one of
-  -- the goal.
+  -- A run was started, which is the newest one that is open: the entry is that of the run. The first run of all is one
+  -- of the goal.
   Started :
       {runs : Option (List (RunRecord I R))} {next : Place} {entries : List (Entry I R)} (asked : I)
       → Recorded goal runs next entries → (runs ≡ None → goal ≡ asked)
       → Recorded goal (Some (new_record asked next ∷ frames_in runs)) next
       (entries ++ entry_of_run (new_record asked next) ∷ [])
-  -- The newest run had a reply, and made a request. The entries are that of a question that was answered, and that of the
-  -- request; and a run that has its result is open no longer.
+  -- The newest run had a reply, and made a request. The entries are that of a question that was answered, and that of
+  -- the request; and a run that has its result is open no longer.
   Stepped :
       {run : RunRecord I R} {below : List (RunRecord I R)} {next : Place} {entries : List (Entry I R)}
       (reply : Reply R) (request : Request I R)
