@@ -1,5 +1,7 @@
 //! The newest goal is run again.
 ghost use Rattle.std.specs.Prelude.{◌≡◌, OnOk};
+ghost use Rattle.search_context.specs.Delegate.{SeesOn, without_newest};
+ghost use Rattle.goal_changes.specs.Frames.{frames_of};
 ghost use Rattle.search_ends.specs.Below.{KeepsEarlier, KeepsFinished, StartsFrame};
 ghost use Rattle.search_ends.specs.Words.{MayRunAgain, RunsAgain};
 
@@ -30,6 +32,8 @@ pub(crate) fn run_again<D: Delegate>(
     ensures kept { KeepsFinished cache.old.nodes cache.new.nodes }
     ensures earlier { KeepsEarlier evaluation.old.goals cache.old.nodes cache.new.nodes }
     ensures starts { StartsFrame D.Delegate (OnOk result) inspect.old inspect.new }
+    ensures seen { OnOk result (SeesOn D.sees inspect.old inspect.new
+        (without_newest (frames_of evaluation.old.goals)) (frames_of evaluation.new.goals)) }
 {
     // Entries that used the goal's result are cleared, since that is another one now. Those that merely have the
     // goal as a head stay: they are rebased when it is popped.

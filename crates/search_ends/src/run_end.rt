@@ -1,5 +1,7 @@
 //! The newest goal's run ends.
-ghost use Rattle.std.specs.Prelude.{Some};
+ghost use Rattle.std.specs.Prelude.{IfOk, Some};
+ghost use Rattle.search_context.specs.Delegate.{SeesOn, without_newest};
+ghost use Rattle.goal_changes.specs.Frames.{frames_of};
 ghost use Rattle.search_ends.specs.Below.{Done, fates_of, HaveExpected, KeepsBuilder, HasRequest};
 ghost use Rattle.search_ends.specs.Words.{RunEnds};
 ghost use Rattle.between_moves.specs.Scopes.{HoldScopes};
@@ -31,6 +33,8 @@ pub fn finish_run<D: Delegate>(
         cache.old evaluation.old (D.starts inspect.old) result
         cache.new evaluation.new (D.starts inspect.new) }
     ensures builder { KeepsBuilder D.starts D.noop inspect.old inspect.new }
+    ensures seen { IfOk result (λ next. SeesOn D.sees inspect.old inspect.new
+        (without_newest (frames_of evaluation.old.goals)) (frames_of evaluation.new.goals)) }
 {
     let finished_runs = evaluation.goals.last_run().finished_runs;
     match end_of_run::<D>(&evaluation.goals.last_entry().state, finished_runs, outcome) {

@@ -3,3 +3,4 @@ pub mod Making
 pub mod Moves
 pub mod Turns
 pub mod Calls
+pub mod Ended

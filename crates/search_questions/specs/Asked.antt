@@ -6,6 +6,7 @@ use Rattle.search_questions.specs.Below.{DelegateOf, CxOf, Received, Provisional
 use Rattle.search_questions.specs.Below.{StackDepth, AvailableDepth, Cache, CacheNode, NestsItself, NotesOverflow}
 use Rattle.search_questions.specs.Below.{TakesStored, AnswersNewest, Hit, first_accepted, usable, depth_below, newest}
 use Rattle.search_questions.specs.Below.{CountsOne, KeepsCache}
+use Rattle.search_context.specs.Delegate.{frames_in}
 use Rattle.search_context.specs.declared.context.Reply.TheVariants as reply
 use Rattle.search_rules.specs.LookUp.{Asking, is_applicable, usable_entry, IsUsable}
 use Rattle.search_state.specs.declared.evaluation.Evaluation.{Evaluation}
@@ -17,6 +18,13 @@ use Rattle.between_moves.specs.Scopes.{HoldsOwn}
 abbrev pub question_depth : {D C V P F I R A T : Type 0} → DelegateOf D C V P F I R A T
     → Evaluation D C V P F I R A T → Option ℕ
 question_depth G e = option_and_then (λ s. depth_below G.DIVIDE_AVAILABLE_DEPTH_ON_OVERFLOW s.0) (newest e.goals)
+
+-- where the builder had seen a call that has these frames open, it has seen that the goal's first frame was started: that
+-- of the call itself where none was
+pub record SeesStart {P I F : Type 0} (sees : P → I → Option (List F) → Type 0) (input : I) (old new : P)
+    (before after : List F) : Type 0 where
+  pub at : (goal : I) (frames : Option (List F)) → sees old goal frames → (frames ≡ None → goal ≡ input)
+      → frames_in frames ≡ before → sees new goal (Some after)
 
 -- ---- what the newest goal is told, and has noted of that
 

@@ -1,12 +1,14 @@
 //! What a question comes to: it is refused, or answered by a provisional entry, a stored result or a goal that is
 //! under evaluation already, or its goal is pushed.
-ghost use Rattle.std.specs.Prelude.{◌≡◌, ◌<◌, ◌||◌, ◌∷◌, ◌+◌, ◌^◌, ◌≤◌, ℕ, false, is_some, length, map, reverse, unwrap_or, IfOk, IfSome, OnOk, OnErr, Some, None};
+ghost use Rattle.std.specs.Prelude.{◌≡◌, ◌<◌, ◌||◌, ◌∷◌, ◌+◌, ◌^◌, ◌≤◌, ℕ, false, is_some, length, map, reverse, unwrap_or, IfOk, IfSome, List, OnOk, OnErr, Option, Some, None};
 ghost use Rattle.std.specs.List.{list_any, position};
 ghost use Rattle.std.specs.Option.{is_none, option_copied, option_map, option_and_then};
 ghost use Rattle.search_questions.specs.Below.{depth_below, KeepsBuilder, KeepsNodes, ProvisionalCacheEntry, Evaluate, newest, ClosesCycle, Pushes, fates_of, HaveExpected, Begin, hit_of, AreOnStack, usable_entry, is_applicable, first_accepted, usable, IsFated, HasRequest, StartsFrame};
 ghost use Rattle.search_rules.specs.Words.{Consults, is_compared, IsUsable};
+ghost use Rattle.search_context.specs.Delegate.{SeesOn};
+ghost use Rattle.goal_changes.specs.Frames.{frames_of};
 ghost use Rattle.search_state.specs.Scopes.{held_over};
-ghost use Rattle.search_questions.specs.Words.{AskingFails, AskingLeadsTo, Asks, IsAnsweredAtLimit, IsAnsweredByEntry, IsAnsweredByHit, question_depth};
+ghost use Rattle.search_questions.specs.Words.{AskingFails, AskingLeadsTo, Asks, IsAnsweredAtLimit, IsAnsweredByEntry, IsAnsweredByHit, question_depth, SeesStart};
 
 use global_cache::GlobalCache;
 use open_goals::goals::OpenGoals;
@@ -45,6 +47,8 @@ pub fn ask<D: Delegate>(
     ensures asks { Asks D.Delegate D.Cx.Input.eq cache.old evaluation.old
         cache.new evaluation.new }
     ensures builder { KeepsBuilder D.starts D.noop inspect.old inspect.new }
+    ensures seen { IfOk result (λ received. SeesOn D.sees inspect.old inspect.new
+        (frames_of evaluation.old.goals) (frames_of evaluation.new.goals)) }
 {
     // A question is refused before anything is looked up: whether a search is too deep must not depend on
     // what the cache happens to hold.
@@ -82,6 +86,8 @@ fn ask_at<D: Delegate>(
     ensures kept { KeepsNodes cache.old.nodes cache.new.nodes }
     ensures builder { KeepsBuilder D.starts D.noop inspect.old inspect.new }
     ensures at_most { D.starts inspect.new ≤ D.starts inspect.old + 1 }
+    ensures seen { IfOk result (λ received. SeesOn D.sees inspect.old inspect.new
+        (frames_of evaluation.old.goals) (frames_of evaluation.new.goals)) }
 {
     let cx = cache.cx();
     // Entries come before stored results, so that the test of a stored result's nested goals need not think
@@ -173,6 +179,8 @@ pub fn push_goal<D: Delegate>(
     ensures kept { KeepsNodes cache.old.nodes cache.new.nodes }
     ensures refused { OnErr result (cache.new ≡ cache.old) }
     ensures starts { StartsFrame D.Delegate (OnOk result) inspect.old inspect.new }
+    ensures seen { OnOk result (SeesStart D.sees input inspect.old inspect.new
+        (frames_of evaluation.old.goals) (frames_of evaluation.new.goals)) }
 {
     let frame = D::start(cache.cx(), input, inspect)?;
     let alloc = evaluation.goals.allocator();
@@ -269,6 +277,8 @@ fn consult_for<'a, D: Delegate>(
     ensures scope { is_some result.scope ≡ is_compared result.fate }
     ensures builder { KeepsBuilder D.starts D.noop inspect.old inspect.new }
     ensures same_starts { D.starts inspect.new ≡ D.starts inspect.old }
+    ensures seen { (goal : D.Cx.Input) (frames : Option (List D.Frame)) → D.sees inspect.old goal frames →
+        D.sees inspect.new goal frames }
 {
     consult::<D>(
         cache,

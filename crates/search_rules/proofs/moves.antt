@@ -9,5 +9,6 @@ pub mod Reasons
 pub mod DoneRuns
 pub mod FinishedRuns
 pub mod Fates
+pub mod Frames
 pub mod Storing
 pub mod DoneGoals

@@ -8,3 +8,4 @@ pub mod Refuted
 pub mod Steps
 pub mod Decided
 pub mod Alike
+pub mod Extending

@@ -1,5 +1,5 @@
 //! Goals with their numbers, and what is known of them.
-ghost use Rattle.std.specs.Prelude.{◌≡◌, true, length, slice_get, IfOk, IfSome, Some};
+ghost use Rattle.std.specs.Prelude.{◌≡◌, ◌≤◌, true, length, slice_get, IfOk, IfSome, None, Some};
 ghost use Rattle.std.specs.Option.{option_copied};
 ghost use Rattle.trait_goals.specs.Known.{AreRight, IsFirstUnknown, IsKnown, candidates_at, kind_at};
 ghost use Rattle.trait_goals.specs.Trying.{Extends};
@@ -66,6 +66,7 @@ impl Goals {
     pub fn goal(&mut self, asked: Asked) -> Result<Option<usize>, NoMemory>
         ensures extends { Extends self.old self.new }
         ensures number { IfOk result (λ o. IfSome o (λ number. slice_get self.new.asked number ≡ Some asked)) }
+        ensures none { IfOk result (λ o. o ≡ None → length self.old.made ≤ asked.subject) }
     {
         if asked.subject >= self.terms.len() {
             return Ok(None);

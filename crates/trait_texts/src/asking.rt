@@ -1,6 +1,6 @@
 //! What is asked once all is read.
 
-use crate::calls::{Call, Function, arguments_of, takes_all};
+use crate::calls::{Call, Function, arguments_of};
 use crate::declarations::Question;
 use crate::draft::Draft;
 use crate::lexicon::{Lexicon, Word};
@@ -52,8 +52,7 @@ impl Asking {
 
     /// A function is called.
     pub(crate) fn call(&mut self, call: Call) -> Result<(), Stop> {
-        push(&mut self.pending, Pending::Call(call))?;
-        Ok(())
+        push(&mut self.pending, Pending::Call(call))
     }
 
     /// Asks all that was read, in its order.
@@ -82,15 +81,7 @@ impl Asking {
     ) -> Result<(), Stop> {
         let function = self.function(lexicon, call.word)?;
         let arguments = arguments_of(alloc, &*program, function, call)?;
-        let shapes = function.draft.shapes();
-        let types = program.types_of(alloc, shapes, arguments.as_slice())?;
-        takes_all(
-            function.values.as_slice(),
-            call.given.as_slice(),
-            types.as_slice(),
-        )?;
-        program.ask_all(function.draft.clauses(), types.as_slice())?;
-        Ok(())
+        function.ask(alloc, program, arguments.as_slice(), call.given.as_slice())
     }
 
     // The function that the word names.

@@ -4,7 +4,6 @@ use crate::draft::Draft;
 use crate::lexicon::Word;
 use crate::program::Program;
 use crate::refusal::{Problem, Stop, push};
-use path_kinds::memory::NoMemory;
 use std::alloc::Global;
 use trait_rules::{Made, Shape};
 
@@ -29,6 +28,22 @@ pub(crate) struct Call {
     pub(crate) word: Word,
     pub(crate) types: Vec<usize>,
     pub(crate) given: Vec<Given>,
+}
+
+impl Function {
+    /// Asks what a call does with these types and these values, which have to be of just the types that are taken.
+    pub(crate) fn ask(
+        &self,
+        alloc: Global,
+        program: &mut Program,
+        arguments: &[usize],
+        given: &[Given],
+    ) -> Result<(), Stop> {
+        let types = program.types_of(alloc, self.draft.shapes(), arguments)?;
+        takes_all(self.values.as_slice(), given, types.as_slice())?;
+        program.ask_all(self.draft.clauses(), types.as_slice())?;
+        Ok(())
+    }
 }
 
 // A shape, and a type that is to be of it.
@@ -65,22 +80,20 @@ fn told_arguments(
     function: &Function,
     call: &Call,
 ) -> Result<Vec<usize>, Stop> {
-    let mut pairs = Vec::new(alloc);
-    for (shape, given) in function.values.iter().zip(call.given.iter()) {
-        let pair = Pair {
-            shape: *shape,
-            number: given.number,
-        };
-        push(&mut pairs, pair)?;
-    }
     let mut found = vec![in alloc; None; function.arguments]?;
-    find_arguments(
-        program,
-        function.draft.shapes(),
-        pairs,
-        found.as_mut_slice(),
-    )?;
+    let pairs = pairs_of(alloc, function.values.as_slice(), call.given.as_slice())?;
+    let shapes = function.draft.shapes();
+    find_arguments(program, shapes, pairs, found.as_mut_slice())?;
     all_told(alloc, found.as_slice(), call.word)
+}
+
+// The shapes of the values that are taken, each with the type of what is given.
+fn pairs_of(alloc: Global, values: &[usize], given: &[Given]) -> Result<Vec<Pair>, Stop> {
+    let mut pairs = Vec::new(alloc);
+    for (shape, given) in values.iter().zip(given.iter()) {
+        push_pair(&mut pairs, *shape, given.number)?;
+    }
+    Ok(pairs)
 }
 
 // What each parameter stands for, all of which has to be known.
@@ -95,13 +108,14 @@ fn all_told(alloc: Global, found: &[Option<usize>], word: Word) -> Result<Vec<us
     Ok(arguments)
 }
 
-// Notes for each parameter which type stands there where types are to be of shapes. They may be of others: that is not looked at.
+// Notes for each parameter which type stands there where types are to be of shapes. They may be of others: that is not
+// looked at.
 fn find_arguments(
     program: &Program,
     shapes: &[Shape],
     pairs: Vec<Pair>,
     found: &mut [Option<usize>],
-) -> Result<(), NoMemory> {
+) -> Result<(), Stop> {
     let mut left = pairs;
     for _ in 0..u64::MAX {
         let Some(Pair { shape, number }) = left.pop() else {
@@ -119,7 +133,7 @@ fn find_arguments(
     Ok(())
 }
 
-fn push_pair(pairs: &mut Vec<Pair>, shape: usize, number: usize) -> Result<(), NoMemory> {
+fn push_pair(pairs: &mut Vec<Pair>, shape: usize, number: usize) -> Result<(), Stop> {
     push(pairs, Pair { shape, number })
 }
 
@@ -130,8 +144,8 @@ fn note(found: &mut [Option<usize>], parameter: usize, number: usize) {
     }
 }
 
-/// Whether the values that are given are of just the types that are taken, by the types of the shapes.
-pub(crate) fn takes_all(values: &[usize], given: &[Given], types: &[usize]) -> Result<(), Stop> {
+// Whether the values that are given are of just the types that are taken, by the types of the shapes.
+fn takes_all(values: &[usize], given: &[Given], types: &[usize]) -> Result<(), Stop> {
     for (shape, given) in values.iter().zip(given.iter()) {
         if types.get(*shape).copied() != Some(given.number) {
             return Err(Stop::Refused(given.word.place, Problem::OtherType));

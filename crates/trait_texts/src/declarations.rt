@@ -2,7 +2,6 @@
 ghost use Rattle.std.specs.Prelude.{IfOk, length};
 ghost use Rattle.trait_texts.specs.WellFormed.{AreAsked, AreSound};
 
-use crate::forms::Forms;
 use crate::machine::Machine;
 use crate::names::Names;
 use crate::reader::Reader;
@@ -38,13 +37,6 @@ pub struct Declarations<'a> {
     pub depth: usize,
     /// How types and traits are written.
     pub spelling: Spelling<'a>,
-}
-
-// What the texts say beside rules and questions: the limit on depth, and the names of traits.
-#[derive(Drop)]
-struct Heard {
-    depth: usize,
-    traits: Vec<usize>,
 }
 
 /// Reads texts one after another, as one program. With `as_rustc` a trait that is not coinductive asks by steps of unknown
@@ -84,33 +76,23 @@ fn read_words<'a>(
 {
     let names = split_texts(alloc, sources, tokens)?;
     let mut reader = Reader::new(alloc, names.len(), as_rustc)?;
-    match read_texts(alloc, &mut reader, tokens.as_slice(), sources.len()) {
-        Ok(heard) => Ok(told_of(reader, names, heard)),
-        Err(stop) => Err(stop),
-    }
+    read_named(alloc, &mut reader, tokens.as_slice(), sources.len(), names)
 }
 
-// What was read.
-fn told_of<'a>(reader: Reader, names: Vec<&'a [u8]>, heard: Heard) -> Declarations<'a>
-    ensures rules { AreSound result.rules }
-    ensures questions { AreAsked (length result.rules.traits.items) (length result.terms) result.questions.items }
+// The same of words which have these names.
+fn read_named<'a>(
+    alloc: Global,
+    reader: &mut Reader,
+    tokens: &[Token<'_>],
+    count: usize,
+    names: Vec<&'a [u8]>,
+) -> Result<Declarations<'a>, Stop>
+    ensures rules { IfOk result (λ told. AreSound told.rules) }
+    ensures questions { IfOk result (λ told.
+        AreAsked (length told.rules.traits.items) (length told.terms) told.questions.items) }
 {
-    let Reader { forms, program, .. } = reader;
-    let Forms { forms, sets, .. } = forms;
-    let Heard { depth, traits } = heard;
-    let (rules, terms, questions) = program.into_parts();
-    Declarations {
-        rules,
-        terms,
-        questions,
-        depth,
-        spelling: Spelling {
-            names,
-            forms,
-            sets,
-            traits,
-        },
-    }
+    let depth = read_texts(alloc, reader, tokens, count)?;
+    reader.told(names, depth)
 }
 
 // Adds the words of the texts, and returns their names.
@@ -120,30 +102,34 @@ fn split_texts<'a>(
     tokens: &mut Vec<Token<'a>>,
 ) -> Result<Vec<&'a [u8]>, Stop> {
     let mut names = Names::new(alloc)?;
-    let mut file = 0usize;
-    for source in sources {
-        add_words(&mut names, tokens, file, source.text)?;
-        file = file.saturating_add(1);
-    }
+    add_texts(&mut names, tokens, sources)?;
     Ok(names.into_texts())
 }
 
-// Reads the words of so many texts.
+fn add_texts<'a>(
+    names: &mut Names<'a>,
+    tokens: &mut Vec<Token<'a>>,
+    sources: &[Source<'a>],
+) -> Result<(), Stop> {
+    for (file, source) in sources.iter().enumerate() {
+        add_words(names, tokens, file, source.text)?;
+    }
+    Ok(())
+}
+
+// Reads the words of so many texts, and returns the limit on depth.
 fn read_texts(
     alloc: Global,
     reader: &mut Reader,
     tokens: &[Token<'_>],
     count: usize,
-) -> Result<Heard, Stop> {
+) -> Result<usize, Stop> {
     let mut machine = Machine::new(alloc, tokens);
     for _ in 0..count {
         machine.read_text(reader)?;
     }
     reader.finish()?;
-    Ok(Heard {
-        depth: machine.depth,
-        traits: reader.lexicon.trait_names(alloc)?,
-    })
+    Ok(machine.depth)
 }
 
 // What is wrong with the word at this place.

@@ -1,12 +1,13 @@
 //! Constructors, by their forms.
 
 use crate::draft::Draft;
-use crate::lexicon::Word;
+use crate::lexicon::{Lexicon, Word};
 use crate::names::PRIMITIVES;
 use crate::program::Program;
 use crate::refusal::{Problem, Stop, push};
-use crate::spelling::Form;
+use crate::spelling::{Form, Spelling};
 use std::alloc::Global;
+use std::mem;
 use trait_rules::{Bound, Made, Numbered, Shape};
 
 /// The forms of the constructors, and the sets of traits that are in forms.
@@ -78,9 +79,7 @@ impl Forms {
         let count = self.forms.len();
         let constructor = self.constructor(alloc, program, Form::Dyn(set))?;
         if constructor == count {
-            let mut draft = Draft::new(alloc);
-            let head = draft.constructor(constructor)?;
-            self.hold(draft, head, traits)?;
+            push_plain(alloc, &mut self.facts, constructor, traits)?;
         }
         Ok(constructor)
     }
@@ -92,15 +91,12 @@ impl Forms {
         head: usize,
         traits: Vec<usize>,
     ) -> Result<(), Stop> {
-        push(
-            &mut self.facts,
-            Fact {
-                draft,
-                head,
-                traits,
-            },
-        )?;
-        Ok(())
+        let fact = Fact {
+            draft,
+            head,
+            traits,
+        };
+        push(&mut self.facts, fact)
     }
 
     /// The constructor of a parameter of a function in its body.
@@ -143,32 +139,52 @@ impl Forms {
 
     /// Types of the constructor may have no size, if it is a parameter.
     pub(crate) fn relax(&mut self, constructor: usize) -> Result<(), Stop> {
-        push(&mut self.unsized_ones, constructor)?;
-        Ok(())
+        push(&mut self.unsized_ones, constructor)
     }
 
     /// The parameters that have a size implement this trait.
     pub(crate) fn hold_sized(&mut self, alloc: Global, bound: usize) -> Result<(), Stop> {
-        let mut is_sized = vec![in alloc; true; self.forms.len()]?;
-        for constructor in self.unsized_ones.iter() {
-            if let Some(mark) = is_sized.get_mut(*constructor) {
-                *mark = false;
-            }
-        }
+        let is_unsized = marks_of(alloc, self.forms.len(), self.unsized_ones.as_slice())?;
         let constants = self.constants.as_slice();
-        let is_sized = is_sized.as_slice();
-        add_sized(alloc, &mut self.facts, constants, is_sized, bound)
+        let is_unsized = is_unsized.as_slice();
+        add_sized(alloc, &mut self.facts, constants, is_unsized, bound)
     }
 
     /// Whether there are all parameters that questions name.
     pub(crate) fn check(&self, alloc: Global) -> Result<(), Stop> {
-        let mut is_declared = vec![in alloc; false; self.forms.len()]?;
-        for constructor in self.constants.iter() {
-            if let Some(mark) = is_declared.get_mut(*constructor) {
-                *mark = true;
-            }
-        }
+        let is_declared = marks_of(alloc, self.forms.len(), self.constants.as_slice())?;
         check_named(self.named.as_slice(), is_declared.as_slice())
+    }
+
+    /// How types are written, with these names and the names of traits. No forms are left.
+    pub(crate) fn spelling<'a>(
+        &mut self,
+        alloc: Global,
+        names: Vec<&'a [u8]>,
+        traits: Vec<usize>,
+    ) -> Spelling<'a> {
+        Spelling {
+            names,
+            forms: mem::replace(&mut self.forms, Numbered::new(alloc)),
+            sets: mem::replace(&mut self.sets, Numbered::new(alloc)),
+            traits,
+        }
+    }
+
+    /// Where types implement traits as is assumed, or as a `dyn` type does that names them, they implement those above them.
+    pub(crate) fn hold_facts(
+        &self,
+        alloc: Global,
+        lexicon: &Lexicon,
+        program: &mut Program,
+    ) -> Result<(), Stop> {
+        let mut met = vec![in alloc; usize::MAX; lexicon.trait_count()]?;
+        for (number, fact) in self.facts.iter().enumerate() {
+            let traits = fact.traits.as_slice();
+            let all = all_above(alloc, lexicon, &mut met, number, traits)?;
+            hold_all(alloc, program, fact, all.as_slice())?;
+        }
+        Ok(())
     }
 
     // The number of the set of these traits.
@@ -185,30 +201,49 @@ impl Forms {
     }
 }
 
-// Adds for each of the constructors that is marked that it implements the trait.
+// Which of so many constructors are among these.
+fn marks_of(alloc: Global, count: usize, constructors: &[usize]) -> Result<Vec<bool>, Stop> {
+    let mut marks = vec![in alloc; false; count]?;
+    for constructor in constructors {
+        if let Some(mark) = marks.get_mut(*constructor) {
+            *mark = true;
+        }
+    }
+    Ok(marks)
+}
+
+// Adds for each of the constructors that is not marked that it implements the trait.
 fn add_sized(
     alloc: Global,
     facts: &mut Vec<Fact>,
     constructors: &[usize],
-    is_sized: &[bool],
+    is_unsized: &[bool],
     bound: usize,
 ) -> Result<(), Stop> {
     for constructor in constructors {
-        if is_sized.get(*constructor).copied().unwrap_or(false) {
-            let mut draft = Draft::new(alloc);
-            let head = draft.constructor(*constructor)?;
+        if is_unsized.get(*constructor).copied() == Some(false) {
             let traits = Vec::from_slice(alloc, &[bound])?;
-            push(
-                facts,
-                Fact {
-                    draft,
-                    head,
-                    traits,
-                },
-            )?;
+            push_plain(alloc, facts, *constructor, traits)?;
         }
     }
     Ok(())
+}
+
+// Adds that the type of the constructor, which takes no arguments, implements these traits.
+fn push_plain(
+    alloc: Global,
+    facts: &mut Vec<Fact>,
+    constructor: usize,
+    traits: Vec<usize>,
+) -> Result<(), Stop> {
+    let mut draft = Draft::new(alloc);
+    let head = draft.constructor(constructor)?;
+    let fact = Fact {
+        draft,
+        head,
+        traits,
+    };
+    push(facts, fact)
 }
 
 // Whether all constructors that are named, each with its place, are declared.
@@ -253,5 +288,45 @@ pub(crate) fn finish_fields(
         head = draft.applied(head, argument)?;
     }
     program.set_fields(draft, head)?;
+    Ok(())
+}
+
+// These traits and those above them, each once. `met` has for each trait the number of the last fact for which it was met.
+fn all_above(
+    alloc: Global,
+    lexicon: &Lexicon,
+    met: &mut Vec<usize>,
+    number: usize,
+    traits: &[usize],
+) -> Result<Vec<usize>, Stop> {
+    let mut found = Vec::new(alloc);
+    let mut left = Vec::from_slice(alloc, traits)?;
+    for _ in 0..u64::MAX {
+        let Some(bound) = left.pop() else {
+            break;
+        };
+        let Some(last) = met.get_mut(bound) else {
+            continue;
+        };
+        if *last != number {
+            *last = number;
+            push(&mut found, bound)?;
+            left.extend_from_slice(lexicon.above(bound))?;
+        }
+    }
+    Ok(found)
+}
+
+// The types that the fact is about implement all these traits.
+fn hold_all(
+    alloc: Global,
+    program: &mut Program,
+    fact: &Fact,
+    traits: &[usize],
+) -> Result<(), Stop> {
+    for bound in traits {
+        let draft = fact.draft.copied(alloc)?;
+        program.hold(*bound, draft, fact.head)?;
+    }
     Ok(())
 }

@@ -117,8 +117,7 @@ impl Lexicon {
         let mut meaning = self.meaning(name);
         meaning.parameter = Some(parameter);
         self.set(name, meaning);
-        push(&mut self.locals, name)?;
-        Ok(())
+        push(&mut self.locals, name)
     }
 
     /// The name means a value of this type until the item ends.
@@ -126,8 +125,7 @@ impl Lexicon {
         let mut meaning = self.meaning(name);
         meaning.value = Some(number);
         self.set(name, meaning);
-        push(&mut self.locals, name)?;
-        Ok(())
+        push(&mut self.locals, name)
     }
 
     /// No name means a parameter or a value.
@@ -214,8 +212,7 @@ impl Lexicon {
 
     /// The word names a type that has so many arguments there.
     pub(crate) fn note_use(&mut self, word: Word, arguments: usize) -> Result<(), Stop> {
-        push(&mut self.uses, Use { word, arguments })?;
-        Ok(())
+        push(&mut self.uses, Use { word, arguments })
     }
 
     /// The name of the type is its value, too.
@@ -227,8 +224,7 @@ impl Lexicon {
 
     /// The word names the value of the type of this name.
     pub(crate) fn note_unit(&mut self, word: Word) -> Result<(), Stop> {
-        push(&mut self.units, word)?;
-        Ok(())
+        push(&mut self.units, word)
     }
 
     /// Whether all that was named is declared, and types have as many arguments as parameters.

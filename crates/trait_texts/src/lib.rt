@@ -13,6 +13,7 @@ mod declarations;
 mod draft;
 mod forms;
 mod grammar;
+mod item;
 mod lexicon;
 mod machine;
 mod names;

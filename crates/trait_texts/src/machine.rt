@@ -3,7 +3,7 @@
 use crate::grammar::rows_of;
 use crate::lexicon::Word;
 use crate::reader::Reader;
-use crate::refusal::{Problem, Stop, push};
+use crate::refusal::{Problem, Stop};
 use crate::step::{Part, Step};
 use crate::token::{Kind, Place, Token};
 use std::alloc::Global;
@@ -143,7 +143,7 @@ impl<'a> Machine<'a> {
         for (when, steps) in rows_of(part) {
             if when.fits(token) {
                 if !self.steps.is_empty() {
-                    push(&mut self.later, self.steps)?;
+                    self.later.push(self.steps)?;
                 }
                 self.steps = *steps;
                 return Ok(());

@@ -1,7 +1,6 @@
 //! Names and their numbers.
 
-use crate::refusal::push;
-use path_kinds::memory::NoMemory;
+use crate::refusal::{Stop, push};
 use std::alloc::Global;
 use std::collections::HashMap;
 
@@ -80,15 +79,19 @@ pub(crate) struct Names<'a> {
 
 impl<'a> Names<'a> {
     /// The names of primitive types, and keywords.
-    pub(crate) fn new(alloc: Global) -> Result<Names<'a>, NoMemory> {
+    pub(crate) fn new(alloc: Global) -> Result<Names<'a>, Stop> {
         let mut names = Names {
             texts: Vec::new(alloc),
             numbers: HashMap::new(alloc),
         };
-        names.enter(PRIMITIVES)?;
-        names.enter(KEYWORDS)?;
-        names.number(b"Sized")?;
+        names.enter_all()?;
         Ok(names)
+    }
+
+    fn enter_all(&mut self) -> Result<(), Stop> {
+        self.enter(PRIMITIVES)?;
+        self.enter(KEYWORDS)?;
+        self.enter(&[b"Sized"])
     }
 
     /// The number of `Sized`.
@@ -96,7 +99,7 @@ impl<'a> Names<'a> {
         PRIMITIVES.len() + KEYWORDS.len()
     }
 
-    fn enter(&mut self, words: &'static [&'static [u8]]) -> Result<(), NoMemory> {
+    fn enter(&mut self, words: &'static [&'static [u8]]) -> Result<(), Stop> {
         for word in words {
             self.number(*word)?;
         }
@@ -104,7 +107,7 @@ impl<'a> Names<'a> {
     }
 
     /// The number of a name.
-    pub(crate) fn number(&mut self, name: &'a [u8]) -> Result<usize, NoMemory> {
+    pub(crate) fn number(&mut self, name: &'a [u8]) -> Result<usize, Stop> {
         if let Some(number) = self.numbers.get(name) {
             return Ok(*number);
         }

@@ -33,8 +33,7 @@ impl Open {
     /// A type begins behind this word.
     pub(crate) fn begin(&mut self, word: Word) -> Result<(), Stop> {
         let first = self.parts.len();
-        push(&mut self.starts, Start { word, first })?;
-        Ok(())
+        push(&mut self.starts, Start { word, first })
     }
 
     /// The type that began last has all its parts.
@@ -71,8 +70,7 @@ impl Open {
 
     /// One more type is whole.
     pub(crate) fn put(&mut self, shape: usize) -> Result<(), Stop> {
-        push(&mut self.parts, shape)?;
-        Ok(())
+        push(&mut self.parts, shape)
     }
 
     /// Takes the type that was whole last.
@@ -82,8 +80,7 @@ impl Open {
 
     /// One more bound.
     pub(crate) fn add_bound(&mut self, bound: usize) -> Result<(), Stop> {
-        push(&mut self.bounds, bound)?;
-        Ok(())
+        push(&mut self.bounds, bound)
     }
 
     /// Takes the bounds.

@@ -1,12 +1,16 @@
 //! What is made of the parts of a text.
+ghost use Rattle.std.specs.Prelude.{IfOk, length};
+ghost use Rattle.trait_texts.specs.WellFormed.{AreAsked, AreSound};
 
 use crate::asking::Asking;
 use crate::calls::{Call, Function, Given};
+use crate::declarations::Declarations;
 use crate::draft::Draft;
-use crate::forms::{Fact, Forms, finish_fields};
+use crate::forms::{Forms, finish_fields};
+use crate::item::{Item, Role};
 use crate::lexicon::{Lexicon, Parameter, Word};
 use crate::names::{NEVER, Names};
-use crate::open::Open;
+use crate::open::{Open, Start};
 use crate::program::Program;
 use crate::refusal::{Problem, Stop, push};
 use crate::spelling::Form;
@@ -15,57 +19,6 @@ use path_kinds::path::PathKind;
 use std::alloc::Global;
 use std::mem;
 use trait_rules::{Bound, Made};
-
-/// What is read, and so what bounds say.
-#[derive(Clone, Copy)]
-enum Role {
-    Question,
-    // A struct or an enum, whose bounds say nothing.
-    Type,
-    // An impl, or the signature of a function, which needs what its bounds say.
-    Needs,
-    // A function with something in its body, which assumes what its bounds say.
-    Body,
-}
-
-/// The item or the question that is read.
-#[derive(Drop)]
-pub(crate) struct Item {
-    pub(crate) word: Word,
-    pub(crate) parameters: Vec<Word>,
-    pub(crate) draft: Draft,
-    role: Role,
-    // The shapes of the values that a function takes.
-    values: Vec<usize>,
-    // The values that a call has been given.
-    given: Vec<Given>,
-    // The shape of `Self`.
-    own: Option<usize>,
-    // That of which bounds are read, and the place of its last word.
-    subject: usize,
-    subject_place: usize,
-    // The trait of an impl, and the trait that is declared.
-    bound: usize,
-    is_positive: bool,
-}
-
-impl Item {
-    fn new(alloc: Global, word: Word, role: Role) -> Item {
-        Item {
-            word,
-            parameters: Vec::new(alloc),
-            draft: Draft::new(alloc),
-            role,
-            values: Vec::new(alloc),
-            given: Vec::new(alloc),
-            own: None,
-            subject: 0,
-            subject_place: 0,
-            bound: 0,
-            is_positive: true,
-        }
-    }
-}
 
 /// What is known by the place that is reached.
 #[derive(Drop)]
@@ -136,9 +89,14 @@ impl Reader {
         self.open.add_bound(number)
     }
 
+    // The constructor of this form.
+    fn constructor(&mut self, form: Form) -> Result<usize, Stop> {
+        self.forms.constructor(self.alloc, &mut self.program, form)
+    }
+
     // The type of this form, with the parts of the type that began last.
     fn end_type(&mut self, form: Form) -> Result<(), Stop> {
-        let constructor = self.forms.constructor(self.alloc, &mut self.program, form)?;
+        let constructor = self.constructor(form)?;
         let start = self.open.end()?;
         self.end_parts(constructor, start.first)
     }
@@ -155,15 +113,17 @@ impl Reader {
     fn end_path(&mut self) -> Result<(), Stop> {
         let start = self.open.end()?;
         let count = self.open.parts_from(start.first).len();
-        if let Some(parameter) = self.lexicon.meaning(start.word.name).parameter {
-            if count > 0 {
-                return Err(Stop::Refused(start.word.place, Problem::Arguments(0)));
-            }
-            return self.put_parameter(parameter);
+        match self.lexicon.meaning(start.word.name).parameter {
+            Some(_) if count > 0 => Err(Stop::Refused(start.word.place, Problem::Arguments(0))),
+            Some(parameter) => self.put_parameter(parameter),
+            None => self.end_named(start, count),
         }
+    }
+
+    // The type that the word names, with so many arguments.
+    fn end_named(&mut self, start: Start, count: usize) -> Result<(), Stop> {
         self.lexicon.note_use(start.word, count)?;
-        let form = Form::Path(start.word.name);
-        let constructor = self.forms.constructor(self.alloc, &mut self.program, form)?;
+        let constructor = self.constructor(Form::Path(start.word.name))?;
         self.end_parts(constructor, start.first)
     }
 
@@ -193,8 +153,7 @@ impl Reader {
             return Err(Stop::Refused(behind(word), Problem::NoTrait));
         }
         let constructor = self.forms.object(self.alloc, &mut self.program, traits)?;
-        let shape = self.item.draft.constructor(constructor)?;
-        self.open.put(shape)
+        self.put_parameter(Parameter::Constant(constructor))
     }
 
     // The number of the trait that the word names.
@@ -371,8 +330,7 @@ impl Reader {
         let word = self.item.word;
         let count = self.item.parameters.len();
         self.lexicon.declare_type(word, count)?;
-        let form = Form::Path(word.name);
-        let constructor = self.forms.constructor(self.alloc, &mut self.program, form)?;
+        let constructor = self.constructor(Form::Path(word.name))?;
         let draft = self.take_draft();
         finish_fields(&mut self.program, constructor, count, draft)
     }
@@ -400,13 +358,9 @@ impl Reader {
     fn set_head(&mut self) -> Result<(), Stop> {
         let head = self.open.take()?;
         let count = self.item.parameters.len();
-        if let Some(place) = self.item.draft.unused(self.alloc, count, head)?
-            && let Some(parameter) = self.item.parameters.get(place)
-        {
-            return Err(Stop::Refused(parameter.place, Problem::Unconstrained));
-        }
+        let unused = self.item.draft.unused(self.alloc, count, head)?;
         self.item.own = Some(head);
-        Ok(())
+        self.item.check_unused(unused)
     }
 
     fn end_impl(&mut self) -> Result<(), Stop> {
@@ -421,11 +375,20 @@ impl Reader {
     fn add_value(&mut self) -> Result<(), Stop> {
         let shape = self.open.take()?;
         let name = self.open.end()?.word;
-        if let Role::Body = self.item.role {
-            let types = self.take_types()?;
-            let number = type_at(types.as_slice(), shape)?;
-            return self.lexicon.set_value(name.name, number);
+        match self.item.role {
+            Role::Body => self.add_known(name, shape),
+            _ => self.add_taken(name, shape),
         }
+    }
+
+    // A value in the body of a function.
+    fn add_known(&mut self, name: Word, shape: usize) -> Result<(), Stop> {
+        let number = self.take_type(shape)?;
+        self.lexicon.set_value(name.name, number)
+    }
+
+    // A value that a function takes. A keyword stands for no name.
+    fn add_taken(&mut self, name: Word, shape: usize) -> Result<(), Stop> {
         push(&mut self.item.values, shape)?;
         if Names::is_keyword(name.name) {
             return Ok(());
@@ -453,14 +416,19 @@ impl Reader {
         Ok(types)
     }
 
+    // The type of this shape of the draft, in whose place is an empty one.
+    fn take_type(&mut self, shape: usize) -> Result<usize, Stop> {
+        let types = self.take_types()?;
+        type_at(types.as_slice(), shape)
+    }
+
     fn end_question(&mut self, word: Word) -> Result<(), Stop> {
         let shape = self.open.take()?;
         let bounds = self.open.take_bounds(self.alloc);
         if bounds.is_empty() {
             return Err(Stop::Refused(behind(word), Problem::NoTrait));
         }
-        let types = self.take_types()?;
-        let subject = type_at(types.as_slice(), shape)?;
+        let subject = self.take_type(shape)?;
         self.asking.ask(subject, bounds.as_slice())
     }
 
@@ -477,68 +445,87 @@ impl Reader {
             Some(number) => number,
             None => self.unit_type(word)?,
         };
-        let form = Form::Path(NEVER);
-        let never = self.forms.constructor(self.alloc, &mut self.program, form)?;
+        let never = self.constructor(Form::Path(NEVER))?;
         if self.program.made(number) == Some(Made::Constructor(never)) {
             return Err(Stop::Refused(word.place, Problem::NeverValue));
         }
-        push(&mut self.item.given, Given { word, number })?;
-        Ok(())
+        push(&mut self.item.given, Given { word, number })
     }
 
     // The type of the value which has its name.
     fn unit_type(&mut self, word: Word) -> Result<usize, Stop> {
         self.lexicon.note_unit(word)?;
-        let form = Form::Path(word.name);
-        let constructor = self.forms.constructor(self.alloc, &mut self.program, form)?;
+        let constructor = self.constructor(Form::Path(word.name))?;
         Ok(self.program.of_none(constructor)?)
     }
 
     // The value that was given last is a reference to the one that is named.
     fn refer(&mut self, form: Form) -> Result<(), Stop> {
-        let constructor = self.forms.constructor(self.alloc, &mut self.program, form)?;
-        let given = self.item.given.last_mut().ok_or(Stop::Memory)?;
-        given.number = self.program.of_one(constructor, given.number)?;
-        Ok(())
+        let constructor = self.constructor(form)?;
+        match self.item.given.last_mut() {
+            Some(given) => refer_to(&mut self.program, given, constructor),
+            None => Err(Stop::Memory),
+        }
     }
 
     fn end_call(&mut self) -> Result<(), Stop> {
         let start = self.open.end()?;
-        let types = self.take_types()?;
-        let mut arguments = Vec::new(self.alloc);
-        for shape in self.open.parts_from(start.first) {
-            push(&mut arguments, type_at(types.as_slice(), *shape)?)?;
-        }
-        self.open.drop_parts(start.first);
+        let types = self.take_parts(start.first)?;
         let given = mem::replace(&mut self.item.given, Vec::new(self.alloc));
         self.asking.call(Call {
             word: start.word,
-            types: arguments,
+            types,
             given,
         })
+    }
+
+    // Takes the types from this number on, and the draft in which they are.
+    fn take_parts(&mut self, first: usize) -> Result<Vec<usize>, Stop> {
+        let types = self.take_types()?;
+        let parts = types_at(self.alloc, types.as_slice(), self.open.parts_from(first))?;
+        self.open.drop_parts(first);
+        Ok(parts)
     }
 
     /// What can be done once all is read: all that is named has to be declared, and all is asked.
     pub(crate) fn finish(&mut self) -> Result<(), Stop> {
         self.lexicon.check()?;
         self.forms.check(self.alloc)?;
-        if let Some(bound) = self.lexicon.meaning(Names::sized()).bound {
-            self.forms.hold_sized(self.alloc, bound)?;
-        }
-        self.hold_facts()?;
+        self.hold_sized()?;
+        self.forms
+            .hold_facts(self.alloc, &self.lexicon, &mut self.program)?;
         self.asking
             .ask_all(self.alloc, &self.lexicon, &mut self.program)
     }
 
-    // Where types implement traits as is assumed, or as a `dyn` type does that names them, they implement those above them.
-    fn hold_facts(&mut self) -> Result<(), Stop> {
-        let mut met = vec![in self.alloc; usize::MAX; self.lexicon.trait_count()]?;
-        for (number, fact) in self.forms.facts.iter().enumerate() {
-            let traits = fact.traits.as_slice();
-            let all = all_above(self.alloc, &self.lexicon, &mut met, number, traits)?;
-            hold_all(self.alloc, &mut self.program, fact, all.as_slice())?;
+    // The parameters that have a size implement `Sized`, if a trait has that name.
+    fn hold_sized(&mut self) -> Result<(), Stop> {
+        match self.lexicon.meaning(Names::sized()).bound {
+            Some(bound) => self.forms.hold_sized(self.alloc, bound),
+            None => Ok(()),
         }
-        Ok(())
+    }
+
+    /// All that was read, with these names.
+    pub(crate) fn told<'a>(
+        &mut self,
+        names: Vec<&'a [u8]>,
+        depth: usize,
+    ) -> Result<Declarations<'a>, Stop>
+        ensures rules { IfOk result (λ told. AreSound told.rules) }
+        ensures questions { IfOk result (λ told.
+            AreAsked (length told.rules.traits.items) (length told.terms) told.questions.items) }
+    {
+        let traits = self.lexicon.trait_names(self.alloc)?;
+        let program = mem::replace(&mut self.program, Program::new(self.alloc));
+        let (rules, terms, questions) = program.into_parts();
+        Ok(Declarations {
+            rules,
+            terms,
+            questions,
+            depth,
+            spelling: self.forms.spelling(self.alloc, names, traits),
+        })
     }
 }
 
@@ -547,47 +534,22 @@ fn type_at(types: &[usize], shape: usize) -> Result<usize, Stop> {
     types.get(shape).copied().ok_or(Stop::Memory)
 }
 
-// The place behind a word.
-fn behind(word: Word) -> usize {
-    word.place.saturating_add(1)
-}
-
-// These traits and those above them, each once. `met` has for each trait the number of the last fact for which it was met.
-fn all_above(
-    alloc: Global,
-    lexicon: &Lexicon,
-    met: &mut Vec<usize>,
-    number: usize,
-    traits: &[usize],
-) -> Result<Vec<usize>, Stop> {
+// The types of these shapes.
+fn types_at(alloc: Global, types: &[usize], shapes: &[usize]) -> Result<Vec<usize>, Stop> {
     let mut found = Vec::new(alloc);
-    let mut left = Vec::from_slice(alloc, traits)?;
-    for _ in 0..u64::MAX {
-        let Some(bound) = left.pop() else {
-            break;
-        };
-        let Some(last) = met.get_mut(bound) else {
-            continue;
-        };
-        if *last != number {
-            *last = number;
-            push(&mut found, bound)?;
-            left.extend_from_slice(lexicon.above(bound))?;
-        }
+    for shape in shapes {
+        push(&mut found, type_at(types, *shape)?)?;
     }
     Ok(found)
 }
 
-// The types that the fact is about implement all these traits.
-fn hold_all(
-    alloc: Global,
-    program: &mut Program,
-    fact: &Fact,
-    traits: &[usize],
-) -> Result<(), Stop> {
-    for bound in traits {
-        let draft = fact.draft.copied(alloc)?;
-        program.hold(*bound, draft, fact.head)?;
-    }
+// The value that is given is a reference to the one that it was, of this constructor.
+fn refer_to(program: &mut Program, given: &mut Given, constructor: usize) -> Result<(), Stop> {
+    given.number = program.of_one(constructor, given.number)?;
     Ok(())
+}
+
+// The place behind a word.
+fn behind(word: Word) -> usize {
+    word.place.saturating_add(1)
 }

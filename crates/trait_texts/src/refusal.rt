@@ -87,19 +87,20 @@ impl<'a> Refusal<'a> {
     pub fn write(&self, alloc: Global, text: &mut Vec<u8>) -> Result<(), NoMemory> {
         text.extend_from_slice(self.file)?;
         write_number(alloc, text, b":", self.line)?;
-        text.extend_from_slice(b": ")?;
-        text.extend_from_slice(match self.word {
+        write_behind(text, b": ", self.shown_word())?;
+        write_behind(text, b": ", self.problem.words())?;
+        match self.problem {
+            Problem::Expected(word) => write_behind(text, b"", word.as_bytes()),
+            Problem::Arguments(count) => write_number(alloc, text, b" ", count),
+            _ => Ok(()),
+        }
+    }
+
+    fn shown_word(&self) -> &[u8] {
+        match self.word {
             [] => b"end",
             word => word,
-        })?;
-        text.extend_from_slice(b": ")?;
-        text.extend_from_slice(self.problem.words())?;
-        match self.problem {
-            Problem::Expected(word) => text.extend_from_slice(word.as_bytes())?,
-            Problem::Arguments(count) => write_number(alloc, text, b" ", count)?,
-            _ => {}
         }
-        Ok(())
     }
 }
 
@@ -112,8 +113,13 @@ fn write_number(
 ) -> Result<(), NoMemory> {
     let mut digits = String::new(alloc);
     write!(digits, "{number}")?;
+    write_behind(text, mark, digits.as_bytes())
+}
+
+// Writes words behind a mark.
+fn write_behind(text: &mut Vec<u8>, mark: &[u8], words: &[u8]) -> Result<(), NoMemory> {
     text.extend_from_slice(mark)?;
-    text.extend_from_slice(digits.as_bytes())?;
+    text.extend_from_slice(words)?;
     Ok(())
 }
 
@@ -150,7 +156,7 @@ impl<T: Drop> From<AllocFailed<T>> for Stop {
 }
 
 /// Adds an element.
-pub(crate) fn push<T: Drop>(items: &mut Vec<T>, item: T) -> Result<(), NoMemory> {
+pub(crate) fn push<T: Drop>(items: &mut Vec<T>, item: T) -> Result<(), Stop> {
     items.push(item)?;
     Ok(())
 }

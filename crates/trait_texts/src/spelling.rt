@@ -1,6 +1,5 @@
 //! How types and traits are written.
 
-use crate::refusal::push;
 use path_kinds::memory::NoMemory;
 use std::alloc::Global;
 use trait_rules::{Key, Made, Numbered, Terms};
@@ -80,7 +79,8 @@ impl<'a> Page<'a> {
     }
 
     fn later(&mut self, piece: Piece<'a>) -> Result<(), NoMemory> {
-        push(&mut self.pieces, piece)
+        self.pieces.push(piece)?;
+        Ok(())
     }
 
     // Types with commas between them, and a text behind them. They come from the last one on.
@@ -144,13 +144,24 @@ impl<'a> Spelling<'a> {
             pieces: Vec::new(alloc),
         };
         page.later(Piece::Type(number))?;
+        self.write_pieces(alloc, &mut page, terms)?;
+        text.extend_from_slice(page.text.as_slice())?;
+        Ok(())
+    }
+
+    // Writes all that is still to be written.
+    fn write_pieces(
+        &self,
+        alloc: Global,
+        page: &mut Page<'a>,
+        terms: &Terms,
+    ) -> Result<(), NoMemory> {
         for _ in 0..u64::MAX {
             let Some(piece) = page.pieces.pop() else {
                 break;
             };
-            self.write_piece(alloc, &mut page, terms, piece)?;
+            self.write_piece(alloc, page, terms, piece)?;
         }
-        text.extend_from_slice(page.text.as_slice())?;
         Ok(())
     }
 
@@ -307,7 +318,7 @@ impl<'a> Spelling<'a> {
                 Some(Made::Constructor(number)) => (None, number),
                 None => break,
             };
-            push(&mut names, self.trait_name(number).unwrap_or(b""))?;
+            names.push(self.trait_name(number).unwrap_or(b""))?;
             rest = others;
         }
         Ok(names)
@@ -326,7 +337,7 @@ impl<'a> Spelling<'a> {
             let Some(Made::Applied(applied, argument)) = terms.get(at) else {
                 break;
             };
-            push(&mut arguments, argument)?;
+            arguments.push(argument)?;
             at = applied;
         }
         Ok(

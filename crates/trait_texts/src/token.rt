@@ -116,8 +116,7 @@ fn add_word<'a>(
         kind,
         name,
     };
-    push(tokens, token)?;
-    Ok(())
+    push(tokens, token)
 }
 
 // The line that is reached behind a text which begins in this line.

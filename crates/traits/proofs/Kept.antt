@@ -7,7 +7,7 @@ use Rattle.delegate_parts.specs.declared.outcome.Outcome.{Outcome}
 use Rattle.search_context.specs.declared.context.Fault.{Fault}
 use Rattle.trait_rules.specs.Terms.{Term}
 use Rattle.trait_goals.specs.Implementing.{Implements}
-use Rattle.trait_rules.proofs.Numbers.{in_longer, keeps_same, keeps_then}
+use Rattle.trait_rules.proofs.Numbers.{in_longer}
 use Rattle.trait_rules.proofs.Standing.{stands_in}
 use Rattle.trait_goals.specs.Known.{IsAsked, Table}
 use Rattle.trait_goals.specs.Trying.{Extends}
@@ -41,22 +41,6 @@ module _ (table more : Table) (kept : Extends table more) where
       no = λ e. not_before goal (r.no e);
     };
   }
-
-pub extends_same : (table : Table) → Extends table table
-extends_same table = record {
-  same_rules = refl;
-  keeps_made = keeps_same table.made;
-  keeps_asked = keeps_same table.asked;
-  keeps_known = λ goal known. known;
-}
-
-pub extends_then : (table more most : Table) → Extends table more → Extends more most → Extends table most
-extends_then table more most h k = record {
-  same_rules = k.same_rules ∙ h.same_rules;
-  keeps_made = keeps_then h.keeps_made k.keeps_made;
-  keeps_asked = keeps_then h.keeps_asked k.keeps_asked;
-  keeps_known = λ goal known. k.keeps_known goal (h.keeps_known goal known);
-}
 
 -- one more answer
 pub right_more : (table : Table) (goals : List ℕ) (came more : List (Result Outcome (Fault ℕ Outcome))) (goal : ℕ)

@@ -1,8 +1,8 @@
 //! The words of the command line.
 
-use crate::stop::Stop;
 use shown_graphs::Form;
 use std::alloc::Global;
+use trait_pages::Stop;
 
 /// How many levels are shown where no number is given.
 const DEPTH: usize = 100;

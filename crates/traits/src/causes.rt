@@ -1,11 +1,10 @@
 //! Why questions come to maybe.
 
-use crate::stop::Stop;
-use crate::table::write_table;
 use search_context::path::PathKind;
 use shown_graphs::{Cause, causes_within};
 use std::alloc::Global;
 use trait_goals::{Candidate, Goals};
+use trait_pages::{Stop, write_table};
 
 /// Why each of these goals came to maybe at this depth, as far as that is seen. They are asked anew, and watched, unless only the
 /// depth can have cut them off; for that, no goal may have been wanted that is not known.

@@ -6,22 +6,14 @@ ghost use Rattle.std.specs.Prelude.{◌≤◌};
 
 mod arguments;
 mod causes;
-mod check;
-mod labels;
 mod program;
 mod rounds;
-mod scout;
-mod stop;
-mod table;
-mod text;
 
-use arguments::{How, order_of};
-use check::check;
-use program::{answer, ask_texts, show, tell_rules};
+use arguments::{How, USAGE, order_of};
+use program::{answer, ask_declared, show, tell_rules};
 use std::io;
 use std::process::ExitCode;
-use stop::{Stop, status_told};
-use text::{Text, read_file, read_texts, sources_of};
+use trait_pages::{Stop, Text, check, declared_in, read_file, read_texts, sources_of, status_told};
 
 fn main(rt: HostRuntime) -> ExitCode {
     ExitCode::from(run(&rt))
@@ -35,9 +27,9 @@ fn run(rt: &HostRuntime) -> u8
 {
     let words = match all_words(rt) {
         Ok(words) => words,
-        Err(_) => return status_told(Err(Stop::InputOrOutput), rt.stderr()),
+        Err(_) => return status_told(Err(Stop::InputOrOutput), USAGE, rt.stderr()),
     };
-    status_told(perform(rt, words.as_slice()), rt.stderr())
+    status_told(perform(rt, words.as_slice()), USAGE, rt.stderr())
 }
 
 // The program's name and its arguments.
@@ -80,7 +72,8 @@ fn perform_check(rt: &HostRuntime, files: &[&str], as_rustc: bool) -> Result<boo
 fn tell(rt: &HostRuntime, how: How, texts: &[Text<'_>], as_rustc: bool) -> Result<bool, Stop> {
     let alloc = rt.alloc();
     let sources = sources_of(alloc, texts)?;
-    let answered = ask_texts(alloc, sources.as_slice(), as_rustc)?;
+    let declared = declared_in(alloc, sources.as_slice(), as_rustc)?;
+    let answered = ask_declared(alloc, declared)?;
     let mut out = rt.stdout();
     match (how.form(), how) {
         (Some(form), _) => show(alloc, &answered, form, &mut out),

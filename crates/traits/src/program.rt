@@ -1,19 +1,17 @@
-//! What the program does with texts that were read.
+//! What the program does with what was declared.
+ghost use Rattle.std.specs.Prelude.{IfOk};
+ghost use Rattle.traits.specs.True.{AreTrue};
 
 mod answering;
 
-use crate::check::write_names;
-use crate::labels::{labels_of, names_of, short_names_of};
-use crate::rounds::{Came, ask_in_rounds};
-use crate::stop::Stop;
-use crate::table::write_table;
+use crate::rounds::ask_in_rounds;
 pub(crate) use answering::answer;
-use search_context::context::NoMemory;
 use shown_graphs::{Form, NoProgress, show_text};
 use std::alloc::Global;
 use std::io::Write;
-use trait_goals::{Asked, Goals};
-use trait_texts::{Declarations, Question, ReadFault, Source, Spelling, read};
+use trait_goals::Goals;
+use trait_pages::{Came, Names, Stop, all_goals, write_names, write_table};
+use trait_texts::{Declarations, Spelling};
 
 /// What the texts ask, with the goals that are known of it, and what it came to.
 #[derive(Drop)]
@@ -28,19 +26,32 @@ pub(crate) struct Answered<'a> {
     is_all_known: bool,
 }
 
-/// Reads the texts, and answers their questions.
-pub(crate) fn ask_texts<'a>(
+impl<'a> Answered<'a> {
+    // What goals are called, as answers call them, or as questions that can be read.
+    fn names(&self, are_full: bool) -> Names<'_, 'a> {
+        Names {
+            goals: &self.goals,
+            spelling: &self.spelling,
+            are_full,
+        }
+    }
+}
+
+/// Answers the questions of what was declared.
+pub(crate) fn ask_declared<'a>(
     alloc: Global,
-    sources: &[Source<'a>],
-    as_rustc: bool,
-) -> Result<Answered<'a>, Stop> {
+    declared: Declarations<'a>,
+) -> Result<Answered<'a>, Stop>
+    ensures { IfOk result (λ answered. AreTrue declared.rules declared.terms declared.questions.items
+        answered.came.items) }
+{
     let Declarations {
         rules,
         terms,
         questions,
         depth,
         spelling,
-    } = read_texts(alloc, sources, as_rustc)?;
+    } = declared;
     let mut goals = Goals::new(alloc, rules, terms);
     let asked = all_goals(alloc, &mut goals, questions.as_slice())?;
     let round = ask_in_rounds(alloc, &mut goals, asked.as_slice(), depth)?;
@@ -52,40 +63,6 @@ pub(crate) fn ask_texts<'a>(
         is_all_known: round.wanted.is_empty(),
         came: round.came,
     })
-}
-
-/// Reads the texts.
-pub(crate) fn read_texts<'a>(
-    alloc: Global,
-    sources: &[Source<'a>],
-    as_rustc: bool,
-) -> Result<Declarations<'a>, Stop> {
-    match read(alloc, sources, as_rustc) {
-        Ok(declared) => Ok(declared),
-        Err(ReadFault::Memory) => Err(Stop::Memory),
-        Err(ReadFault::Refused(refusal)) => {
-            let mut reason = Vec::new(alloc);
-            refusal.write(alloc, &mut reason)?;
-            Err(Stop::Refused(reason))
-        }
-    }
-}
-
-/// The goals of the questions.
-pub(crate) fn all_goals(
-    alloc: Global,
-    goals: &mut Goals,
-    questions: &[Question],
-) -> Result<Vec<usize>, NoMemory> {
-    let mut asked = Vec::new(alloc);
-    for question in questions {
-        let goal = goals.goal(Asked {
-            subject: question.subject,
-            bound: question.bound,
-        })?;
-        asked.push(goal.unwrap_or(usize::MAX))?; // there is one
-    }
-    Ok(asked)
 }
 
 /// Shows in this form how each question is answered. Whether none met a fault.
@@ -101,11 +78,11 @@ pub(crate) fn show<W: Write>(
     let text = text.as_slice();
     let labels = match form {
         Form::Data => {
-            let names = names_of(alloc, goals, &answered.spelling)?;
+            let names = answered.names(true).all(alloc)?;
             out.write_all(write_names(alloc, names.as_slice())?.as_slice())?;
             Vec::new(alloc)
         }
-        Form::Text { .. } | Form::Dot => labels_of(alloc, goals, &answered.spelling)?,
+        Form::Text { .. } | Form::Dot => answered.names(false).labels(alloc)?,
     };
     let labels = labels.as_slice();
     let is_well = show_text::<8, W, NoProgress>(alloc, form, text, labels, out, NoProgress)?;
@@ -119,7 +96,7 @@ pub(crate) fn tell_rules<W: Write>(
     out: &mut W,
 ) -> Result<bool, Stop> {
     let goals = &answered.goals;
-    let labels = short_names_of(alloc, goals, &answered.spelling)?;
+    let labels = answered.names(false).all(alloc)?;
     let asked = answered.asked.as_slice();
     let text = write_table(alloc, goals, labels.as_slice(), asked, answered.depth)?;
     out.write_all(text.as_slice())?;

@@ -4,14 +4,11 @@ ghost use Rattle.trait_answers.specs.Answered.{CanBeTold};
 ghost use Rattle.trait_answers.specs.Asking.{known_by};
 ghost use Rattle.traits.specs.Right.{AreAnsweredAt, AreRight, IsAnswered, IsRight};
 
-use crate::scout::make_known;
-use search_context::context::{Fault, NoMemory};
+use search_context::context::NoMemory;
 use std::alloc::Global;
-use trait_answers::{Answers, Outcome};
-use trait_goals::{Goals, LendsGoals};
-
-/// What a question came to.
-pub(crate) type Came = Result<Outcome, Fault<usize, Outcome>>;
+use trait_answers::Answers;
+use trait_goals::{Goals, LendsGoals, make_known};
+use trait_pages::Came;
 
 /// What the questions came to.
 #[derive(Drop)]
@@ -55,6 +52,7 @@ fn ask_all<L: LendsGoals>(
     ensures right { IfOk result (λ round. AreRight (L.table_of lender) asked.now round.came.items) }
     ensures told { IfOk result (λ round.
         AreAnsweredAt depth (L.table_of lender) asked.now round.came.items) }
+    ensures count { IfOk result (λ round. length round.came.items ≡ length asked.now) }
 {
     let mut answers = Answers::<L>::new(alloc, lender);
     let mut came = Vec::new(alloc);
@@ -92,6 +90,7 @@ pub(crate) fn ask_in_rounds(
 ) -> Result<Round, NoMemory>
     ensures right { IfOk result (λ round. AreRight goals.old asked.now round.came.items) }
     ensures told { IfOk result (λ round. AreAnsweredAt depth goals.new asked.now round.came.items) }
+    ensures count { IfOk result (λ round. length round.came.items ≡ length asked.now) }
 {
     let most = MOST.saturating_add(asked.len().saturating_mul(MORE));
     make_known(alloc, goals, asked, depth, most)?;

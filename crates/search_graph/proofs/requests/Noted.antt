@@ -7,6 +7,7 @@ use Rattle.std.specs.Option.{IfSome, IsSomeAnd}
 use Rattle.std.proofs.lemmas.Bool.Decides.{nat_tests}
 use Rattle.std.proofs.lemmas.List.{get_or-set_same, get_or-set_other, length-map, length-set}
 use Rattle.std.proofs.lemmas.Option.{slice_get-get_or}
+use Rattle.search_context.specs.Delegate.{left_open}
 use Rattle.run_records.proofs.Options.{is_none}
 use Rattle.search_graph.specs.Below.{DelegateOf, CxOf, NodeId, Request, Evaluate, EnterCandidate, FinishCandidate}
 use Rattle.search_graph.specs.Below.{Ignore, Done, Noted, Verdict, Neither, StoredResult, EntryState, OpenGoal}
@@ -448,3 +449,12 @@ pub about_candidates : {I R : Type 0} (request : Request I R)
 about_candidates (Evaluate kind goal) asks done = asks kind goal refl
 about_candidates (Done r) asks done = done r refl
 about_candidates request asks done = tt
+
+-- after one that is not the result the frame is open, still
+pub left_same : {I R F : Type 0} (request : Request I R) → ((r : R) → request ≡ Done r → ⊥) → (frames : List F)
+    → left_open request frames ≡ frames
+left_same (Done r) done frames = absurd (done r refl)
+left_same (Evaluate kind goal) done frames = refl
+left_same EnterCandidate done frames = refl
+left_same FinishCandidate done frames = refl
+left_same (Ignore number) done frames = refl

@@ -1,6 +1,8 @@
 //! The evaluation of a goal: one loop over the goals under evaluation.
-ghost use Rattle.std.specs.Prelude.{◌≡◌, [], is_some, IfOk};
+ghost use Rattle.std.specs.Prelude.{◌≡◌, [], is_some, IfOk, None, OnOk, Some};
 ghost use Rattle.path_kinds.specs.declared.path.PathKind.TheVariants.{Inductive};
+ghost use Rattle.search_context.specs.Delegate.{SeesOn};
+ghost use Rattle.goal_changes.specs.Frames.{frames_of};
 ghost use Rattle.between_moves.specs.Scopes.{HoldScopes};
 ghost use Rattle.search_rules.specs.Fates.{is_compared};
 ghost use Rattle.search_graph.specs.Below.{IsFated, KeepsBuilder, HasReply, HaveExpected, fates_of};
@@ -83,6 +85,7 @@ pub(crate) fn work_out<D: Delegate>(
         cache.new evaluation.new (D.starts inspect.new) }
     ensures released { IfOk result (λ answer. evaluation.new.scopes ≡ []) }
     ensures builder { KeepsBuilder D.starts D.noop inspect.old inspect.new }
+    ensures seen { D.sees inspect.old input None → OnOk result (D.sees inspect.new input (Some [])) }
 {
     let depth = evaluation.root_depth;
     keeps_laws::<D>();
@@ -117,6 +120,8 @@ fn take_turn<D: Delegate>(
         received cache.old evaluation.old (D.starts inspect.old) result
         cache.new evaluation.new (D.starts inspect.new) }
     ensures builder { KeepsBuilder D.starts D.noop inspect.old inspect.new }
+    ensures seen { IfOk result (λ next. SeesOn D.sees inspect.old inspect.new
+        (frames_of evaluation.old.goals) (frames_of evaluation.new.goals)) }
 {
     match advance::<D>(evaluation, cache, received, inspect) {
         Ok(Next::Step(given)) => {
@@ -150,6 +155,8 @@ fn advance<D: Delegate>(
         (D.noop inspect.old) received cache.old evaluation.old (D.starts inspect.old) result
         cache.new evaluation.new (D.starts inspect.new) }
     ensures builder { KeepsBuilder D.starts D.noop inspect.old inspect.new }
+    ensures seen { IfOk result (λ next. SeesOn D.sees inspect.old inspect.new
+        (frames_of evaluation.old.goals) (frames_of evaluation.new.goals)) }
 {
     let cx = cache.cx();
     cache.has_runs();

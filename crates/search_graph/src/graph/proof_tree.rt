@@ -1,5 +1,5 @@
 //! A goal that is worked out whatever is stored of it, so that a builder sees all of it.
-ghost use Rattle.std.specs.Prelude.{◌≡◌, ◌≤◌, ◌+◌, ℕ, true, false, max, None, IfOk, IfErr};
+ghost use Rattle.std.specs.Prelude.{◌≡◌, ◌≤◌, ◌+◌, ℕ, true, false, max, [], None, Some, IfOk, IfErr, OnOk};
 ghost use Rattle.search_graph.specs.Below.{frames_within, HasGraph, IsCaused, IsPlainTo, IsPlainValue, IsProved, IsRefuted, KeepsBuilder, Memory, verdicts};
 ghost use Rattle.search_graph.specs.Called.{HasRun};
 ghost use Rattle.search_graph.specs.Calls.{KeepsAll};
@@ -75,6 +75,9 @@ impl<D: Delegate> SearchGraph<D> {
         // The context stays, and so do stored results or equal ones, finished nodes, and each node's goal.
         ensures keeps { KeepsAll D.Cx.Input.eq cache.old cache.new }
         ensures builder { KeepsBuilder D.starts D.noop inspect.old inspect.new }
+
+        // A builder before which no frame of this goal's call was started has seen the call to where none is open any more.
+        ensures seen { D.sees inspect.old input None → OnOk result (D.sees inspect.new input (Some [])) }
     {
         keeps_laws::<D>();
         is_sound(cache);

@@ -1,10 +1,13 @@
-use Rattle.std.proofs.Common.{arith, ◌-◌, length, ◌++◌, ◌∷◌, [], ◌≤◌, Some, sym, ap, subst, ◌∙◌}
+use Rattle.std.proofs.Common.{arith, ◌-◌, length, ◌++◌, ◌∷◌, [], ◌≤◌, Some, refl, sym, ap, subst, ◌∙◌}
 use Rattle.search_ends.specs.Below.{open_node, rerun_with, change_newest, verdicts, AreFree, AreJustified}
 use Rattle.search_ends.specs.Below.{runs_of, AreReady}
+use Rattle.search_context.specs.Delegate.{without_newest}
+use Rattle.goal_changes.specs.Frames.{frames_of}
 use Rattle.graph_nodes.proofs.Finished.{KeepsFinished-nodes, KeepsFinished-then}
 use Rattle.search_rules.proofs.entries.Reruns.{cleared_at, rerun_ready}
 use Rattle.search_rules.proofs.moves.FinishedRuns.{earlier_taken, taken_from, taken_ends, taken_open, taken_placed}
 use Rattle.search_rules.proofs.moves.FinishedRuns.{reran, reran_with_node, rerun_free, rerun_justified}
+use Rattle.search_rules.proofs.moves.Frames.{reran_frames}
 use Rattle.search_rules.proofs.records.EarlierNodes.{earlier_of_nodes, earlier_then, first_there, rerun_stays}
 use Rattle.search_ends.proofs.rerun.run_again.Goals as goal
 
@@ -190,3 +193,14 @@ returns-clause-earlier g c =
     c.in_ok-result_node.ensures.others)
     (earlier_of_nodes c.args.evaluation.now.goals c.result_node.new.cache.nodes
     c.open_node.new.self.nodes c.open_node.ensures.kept)
+
+pub returns-clause-seen : goal.returns-clause-seen
+returns-clause-seen g c = record {
+  at = λ root seen.
+      subst (λ l. g.D.Delegate.sees c.start.new.inspect root (Some l))
+      (reran_frames c.args.outcome _ c.in_ok-frame.frame c.in_ok-own_node.own_node c.args.evaluation.now.goals
+      c.take_progress-progress.new.self c.run_again.new.self c.requires.some c.take_progress-progress.ensures.left
+      c.run_again.ensures)
+      (c.in_ok-frame.ensures.seen c.in_ok-frame.frame refl root
+      (Some (without_newest (frames_of c.args.evaluation.now.goals))) seen (λ none. absurd cc));
+}

@@ -3,7 +3,8 @@ use Rattle.search_ends.specs.Below.{IsEndOfRun, Memory, Overflow, Step, verdict_
 use Rattle.search_ends.specs.Words.{EndedAtLimit, EndedDone, NotRunAgain, PopsOrFails, RanAgain, RunEnds}
 use Rattle.lean_runs.proofs.Verdicts.{neither_is}
 use Rattle.search_rules.proofs.moves.Moves.{can_leave, ends_newest}
-use Rattle.search_rules.proofs.moves.Questions.{same_err}
+use Rattle.search_rules.proofs.moves.Frames.{popped_frames, sees_same}
+use Rattle.search_rules.proofs.moves.Questions.{if_ok_then, same_err}
 use Rattle.search_rules.proofs.moves.DoneRuns.{limit_comes, limited_plain, newest_comes, newest_plain}
 use Rattle.search_rules.proofs.moves.Reasons.{newest_reason, newest_unranked}
 use Rattle.search_rules.proofs.moves.EndOfRunLaws.{limited, newest_limited}
@@ -180,3 +181,17 @@ returns-in-Ok-clause-builder g c = builder_stays g.D.Delegate.starts g.D.Delegat
 
 pub returns-in-Err-AtLimit-clause-builder : goal.returns-in-Err-AtLimit-clause-builder
 returns-in-Err-AtLimit-clause-builder g c = builder_stays g.D.Delegate.starts g.D.Delegate.noop c.args.inspect.now
+
+-- ---- what it saw
+
+pub returns-in-Ok-clause-seen : goal.returns-in-Ok-clause-seen
+returns-in-Ok-clause-seen g c =
+    if_ok_then c.pop_goal.result _ _ c.pop_goal.ensures.popped
+    (λ next pops. sees_same g.D.Delegate.sees c.args.inspect.now _ _
+    (popped_frames c.args.outcome c.args.evaluation.now.goals next c.pop_goal.new.evaluation.goals pops.left))
+
+pub returns-in-Err-AtLimit-clause-seen : goal.returns-in-Err-AtLimit-clause-seen
+returns-in-Err-AtLimit-clause-seen g c =
+    if_ok_then c.pop_goal-in-Err-AtLimit.result _ _ c.pop_goal-in-Err-AtLimit.ensures.popped
+    (λ next pops. sees_same g.D.Delegate.sees c.args.inspect.now _ _
+    (popped_frames _ c.args.evaluation.now.goals next c.pop_goal-in-Err-AtLimit.new.evaluation.goals pops.left))

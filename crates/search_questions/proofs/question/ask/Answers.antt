@@ -4,6 +4,7 @@ use Rattle.search_questions.specs.Below.{Answer, verdicts}
 use Rattle.search_questions.specs.Words.{AskingFails, AskingLeadsTo, NotAnsweredAt, NotRefused, Refused}
 use Rattle.search_questions.proofs.moves.Limits.{met_or, met_so}
 use Rattle.between_moves.proofs.Keeping.{appending_keeps, cache_stays}
+use Rattle.search_rules.proofs.moves.Frames.{refused_frames, sees_same}
 use Rattle.search_rules.proofs.moves.Questions.{asked_depth_fits, if_err, if_ok_then, none_of}
 use Rattle.search_rules.proofs.entries.Ready.{are_on_stack}
 use Rattle.search_questions.proofs.question.ask.Goals as goal
@@ -75,3 +76,9 @@ returns-clause-asks g c = record {
       c.in-Some.ensures
       (ap (λ evaluation. evaluation.limits_met) c.ask_at.ensures.rest ∙ sym (met_or c.args.evaluation.now.limits_met));
 }
+
+pub returns-in_default-clause-seen : goal.returns-in_default-clause-seen
+returns-in_default-clause-seen g c =
+    if_ok_then c.refuse.result _ _ c.refuse.ensures.refuses
+    (λ received refused. sees_same g.D.Delegate.sees c.args.inspect.now _ _
+    (refused_frames c.args.evaluation.now.goals c.refuse.new.goals _ refused.noted))

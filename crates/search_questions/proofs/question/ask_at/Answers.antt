@@ -1,10 +1,12 @@
 use Rattle.std.proofs.Common.{arith, ◌≡◌, ◌≤◌, ◌+◌, ◌∷◌, Option, None, Some, option_map, is_some, true, sym, ap}
-use Rattle.std.proofs.Common.{◌∙◌, subst}
+use Rattle.std.proofs.Common.{◌∙◌, refl, subst}
 use Rattle.std.specs.Option.{IfSome, option_copied}
 use Rattle.search_questions.specs.Below.{Begin, CountsOne, fates_of, IsFated, hit_of, ClosesCycle}
 use Rattle.search_questions.specs.Words.{AskingLeadsTo, ByEntry, ByStored, OverCycle, Pushed}
 use Rattle.between_moves.proofs.Scopes.{holds_own}
 use Rattle.between_moves.specs.Scopes.{HoldsOwn}
+use Rattle.goal_changes.specs.Frames.{frames_of}
+use Rattle.search_rules.proofs.moves.Frames.{answered_frames, sees_same, sees_still, stored_frames}
 use Rattle.search_rules.proofs.moves.Questions.{if_ok_then}
 use Rattle.search_state.specs.Scopes.{held_over}
 use Rattle.search_questions.proofs.question.ask_at.Goals as goal
@@ -117,3 +119,34 @@ returns-clause-asked g c =
     (subst (λ n. g.D.Delegate.counts ≡ true
     → CountsOne g.D.Delegate.last n (g.D.Delegate.starts c.push_goal.new.inspect))
     c.consult_for-stored.ensures.same_starts c.in_ok-push_goal.ensures.starts.counted)))))
+
+-- ---- what the builder saw
+
+pub returns-in-Some-clause-seen : goal.returns-in-Some-clause-seen
+returns-in-Some-clause-seen g c =
+    if_ok_then c.answer_by_entry.result _ _ c.answer_by_entry.ensures.answered
+    (λ received answered. sees_same g.D.Delegate.sees c.args.inspect.now _ _
+    (answered_frames c.args.evaluation.now.goals c.answer_by_entry.new.goals _ _ _ _ answered.takes))
+
+pub returns-in-Some-stored-clause-seen : goal.returns-in-Some-stored-clause-seen
+returns-in-Some-stored-clause-seen g c =
+    if_ok_then c.answer_by_stored.result _ _ c.answer_by_stored.ensures.answered
+    (λ received answered. sees_still g.D.Delegate.sees c.args.inspect.now c.consult_for-stored.new.inspect _ _
+    c.consult_for-stored.ensures.seen
+    (stored_frames c.args.evaluation.now.goals c.answer_by_stored.new.goals _ _ _ answered.takes))
+
+pub returns-in-Some-find-clause-seen : goal.returns-in-Some-find-clause-seen
+returns-in-Some-find-clause-seen g c =
+    if_ok_then c.answer_cycle.result _ _ c.answer_cycle.ensures.answered
+    (λ given closes. sees_still g.D.Delegate.sees c.args.inspect.now c.consult_for-stored.new.inspect _ _
+    c.consult_for-stored.ensures.seen
+    (answered_frames c.args.evaluation.now.goals c.answer_cycle.new.evaluation.goals _ _ _ _ closes.takes))
+
+pub returns-clause-seen : goal.returns-clause-seen
+returns-clause-seen g c =
+    if_ok_then c.begin_in_scope.result _ _ c.begin_in_scope.ensures.begins
+    (λ received begins. record {
+      at = λ root seen. c.in_ok-push_goal.ensures.seen.at root (Some (frames_of c.args.evaluation.now.goals))
+          (c.consult_for-stored.ensures.seen root (Some (frames_of c.args.evaluation.now.goals)) seen)
+          (λ none. absurd cc) refl;
+    })

@@ -1,4 +1,5 @@
-use Rattle.std.proofs.Common.{rules, ◌∷◌, ◌∙◌, ap}
+use Rattle.std.proofs.Common.{rules, Some, ◌∷◌, ◌∙◌, ap, refl, subst, sym}
+use Rattle.goal_changes.specs.Frames.{frames_of}
 use Rattle.search_questions.specs.Below.{fates_of}
 use Rattle.search_questions.proofs.question.push_goal.Goals as goal
 
@@ -22,3 +23,11 @@ returns-clause-fates g c = ap (λ l. fates_of l) c.in_ok-push.ensures.ok ∙ ap 
   depth = e.available_depth.0;
   fate = c.args.fate;
 } ∷ fates_of c.args.evaluation.now.goals) c.new-entry.ensures
+
+pub returns-clause-seen : goal.returns-clause-seen
+returns-clause-seen g c = record {
+  at = λ root frames seen first below.
+      subst (λ l. g.D.Delegate.sees c.start.new.inspect root (Some l))
+      (ap (λ l. c.in_ok-frame.frame ∷ l) below ∙ sym (ap frames_of c.in_ok-push.ensures.ok))
+      (c.in_ok-frame.ensures.seen c.in_ok-frame.frame refl root frames seen first);
+}

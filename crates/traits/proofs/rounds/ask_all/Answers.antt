@@ -34,3 +34,6 @@ loop-goal-preserved g c =
           c.loop-goal.invariant.same (c.ask-answer.ensures.told (c.loop-goal.invariant.deep enough))
           (record { all = all; is_goal = within; deep = enough }));
     }
+
+pub returns-clause-count : goal.returns-clause-count
+returns-clause-count g c = omega (arith, c.loop-goal.invariant.count)

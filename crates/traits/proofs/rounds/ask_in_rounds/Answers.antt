@@ -1,4 +1,5 @@
-use Rattle.traits.proofs.Kept.{extends_then, right_before}
+use Rattle.trait_goals.proofs.Extending.{extends_then}
+use Rattle.traits.proofs.Kept.{right_before}
 use Rattle.traits.proofs.rounds.ask_in_rounds.Goals as goal
 
 pub returns-clause-right : goal.returns-clause-right

@@ -73,3 +73,6 @@ work_out-answer-requires-clause-in_scope g c = refl
 pub work_out-answer-requires-clause-fated : goal.work_out-answer-requires-clause-fated
 work_out-answer-requires-clause-fated g c =
     record { recorded = λ records. refl; expected = record { expected = tt; plain = λ n plain fits. tt } }
+
+pub returns-clause-seen : goal.returns-clause-seen
+returns-clause-seen g c = c.work_out-answer.ensures.seen

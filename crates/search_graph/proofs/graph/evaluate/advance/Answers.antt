@@ -1,10 +1,14 @@
-use Rattle.std.proofs.Common.{refl, sym, subst}
+use Rattle.std.proofs.Common.{◌∙◌, refl, sym, subst}
 use Rattle.search_graph.specs.Below.{CanStep, Done, Evaluate}
 use Rattle.search_graph.proofs.ran.Making.{asks, ends, fails_in_frame, fails_to_ask, fails_to_note, notes}
 use Rattle.search_graph.proofs.requests.Advancing.{has_expected, has_held, has_request}
-use Rattle.search_graph.proofs.requests.Noted.{about_candidates, can_note}
+use Rattle.search_graph.proofs.requests.Noted.{about_candidates, can_note, left_same}
 use Rattle.search_graph.proofs.turns.Loops.{stepped_some}
 use Rattle.search_rules.proofs.moves.Moves.{can_step, some_waits}
+use Rattle.goal_changes.specs.Frames.{frames_of}
+use Rattle.search_context.specs.Delegate.{without_newest}
+use Rattle.search_rules.proofs.moves.Frames.{noted_frames, sees_as, sees_then}
+use Rattle.search_rules.proofs.moves.Questions.{if_ok_then}
 use Rattle.search_graph.proofs.graph.evaluate.advance.Goals as goal
 
 pub step-requires-clause-some : goal.step-requires-clause-some
@@ -124,3 +128,23 @@ returns-in_ok-note_candidate-in_default-clause-advanced g c =
     (g.D.Delegate.starts c.step.new.inspect) c.step.ensures.same_starts
     (about_candidates c.in_ok-request.request c.in_default.not-Evaluate c.in_default.not-Done)
     c.in_ok-note_candidate-in_default.ensures _ c.without_node.ensures
+
+-- ---- what the builder saw
+
+pub returns-in_ok-next-in-Evaluate-clause-seen : goal.returns-in_ok-next-in-Evaluate-clause-seen
+returns-in_ok-next-in-Evaluate-clause-seen g c =
+    sees_then g.D.Delegate.sees c.args.inspect.now c.step.new.inspect c.ask.new.inspect _ (frames_of c.step.new.goals) _
+    (rw c.in-Evaluate.is at c.in_ok-request.ensures.seen) c.in_ok-next-in-Evaluate.ensures.seen
+
+pub returns-in-Done-clause-seen : goal.returns-in-Done-clause-seen
+returns-in-Done-clause-seen g c =
+    if_ok_then c.finish_run.result _ _ c.finish_run.ensures.seen
+    (λ next ended. sees_then g.D.Delegate.sees c.args.inspect.now c.step.new.inspect c.finish_run.new.inspect _
+    (without_newest (frames_of c.step.new.goals)) _ (rw c.in-Done.is at c.in_ok-request.ensures.seen) ended)
+
+pub returns-in_ok-note_candidate-in_default-clause-seen : goal.returns-in_ok-note_candidate-in_default-clause-seen
+returns-in_ok-note_candidate-in_default-clause-seen g c =
+    sees_as g.D.Delegate.sees c.args.inspect.now c.step.new.inspect _ _ _ c.in_ok-request.ensures.seen
+    (noted_frames c.in_ok-request.request c.step.new.goals c.note_candidate.new.self
+    c.in_ok-note_candidate-in_default.ensures
+    ∙ sym (left_same c.in_ok-request.request c.in_default.not-Done (frames_of c.step.new.goals)))

@@ -1,7 +1,9 @@
-use Rattle.std.proofs.Common.{Err, sym, subst}
+use Rattle.std.proofs.Common.{Err, ap, sym, subst}
+use Rattle.goal_changes.specs.Frames.{frames_of}
 use Rattle.search_graph.specs.Below.{Memory}
 use Rattle.search_graph.specs.Ran.{Answered, Failed, FailedForGood, GoesOn, NotAnswered, Turned}
 use Rattle.search_graph.proofs.ran.Turns.{advanced_before, noted_after}
+use Rattle.search_rules.proofs.moves.Frames.{sees_as}
 use Rattle.search_rules.proofs.moves.Questions.{same_err}
 use Rattle.search_graph.proofs.graph.evaluate.take_turn.Goals as goal
 
@@ -90,3 +92,14 @@ returns-in_err-give_up-in-Err-clause-turned g c =
     (g.D.Delegate.starts c.advance.new.inspect)) (sym c.in_err-give_up-in-Err.ensures.refused)
     (FailedForGood c.in-Err.fault c.advance.new.cache c.advance.new.evaluation c.give_up.new.evaluation
     (g.D.Delegate.starts c.advance.new.inspect) (rw c.in-Err.is at c.advance.ensures.advanced) c.give_up.ensures.rest))
+
+-- ---- what the builder saw
+
+pub returns-in-Ok-Step-clause-seen : goal.returns-in-Ok-Step-clause-seen
+returns-in-Ok-Step-clause-seen g c =
+    sees_as g.D.Delegate.sees c.args.inspect.now c.advance.new.inspect _ _ _
+    (rw c.in-Ok-Step.is at c.advance.ensures.seen) (ap (λ e. frames_of e.goals) c.collect_drafts.ensures.rest)
+
+pub returns-in_ok-collect_at_end-in-Ok-Finished-clause-seen :
+    goal.returns-in_ok-collect_at_end-in-Ok-Finished-clause-seen
+returns-in_ok-collect_at_end-in-Ok-Finished-clause-seen g c = rw c.in-Ok-Finished.is at c.advance.ensures.seen

@@ -1,9 +1,11 @@
-use Rattle.std.proofs.Common.{arith, Err, None, Ok, sym, subst}
+use Rattle.std.proofs.Common.{ap, arith, Err, None, Ok, refl, Some, sym, subst}
+use Rattle.goal_changes.specs.Frames.{frames_of}
 use Rattle.between_moves.proofs.Scopes.{holds_own}
 use Rattle.search_context.proofs.Builders.{builder_goes_on}
 use Rattle.search_graph.specs.Below.{Begin, Finished, Memory, Step}
 use Rattle.search_graph.specs.Ran.{Began, ended, NotBegun, Ran, Then, Turned}
 use Rattle.search_graph.proofs.ran.Calls.{ran_drafts, ran_expected, ran_falls, ran_reply, ran_scopes}
+use Rattle.search_graph.proofs.ran.Ended.{none_turned}
 use Rattle.search_graph.proofs.ran.Turns.{turned_scopes}
 use Rattle.search_rules.proofs.moves.Questions.{same_err}
 use Rattle.path_kinds.specs.declared.path.PathKind.TheVariants.{Inductive}
@@ -61,6 +63,8 @@ loop-next-init g c = record {
       c.requires.in_scope c.in_ok-hold.ensures.held)
       c.push_goal.ensures.kept c.push_goal.ensures.starts.at_most c.in_ok-push_goal.ensures.starts.counted)));
   builder = c.push_goal.ensures.starts.builder;
+  seen = λ fresh. c.in_ok-push_goal.ensures.seen.at c.args.input None fresh (λ none. refl)
+      (sym (ap frames_of c.requires.outset.new.no_goals));
 }
 
 -- ---- a turn is taken
@@ -103,6 +107,7 @@ loop-next-preserved g c = record {
       c.loop-next.invariant.builder.same_noop (rw c.in-Step.is at c.in_ok-next.ensures.turned));
   builder = builder_goes_on g.D.Delegate.starts g.D.Delegate.noop c.args.inspect.now c.loop-next.inspect
       c.take_turn.new.inspect c.loop-next.invariant.builder c.take_turn.ensures.builder;
+  seen = λ fresh. c.in_ok-next.ensures.seen.at c.args.input (c.loop-next.invariant.seen fresh);
 }
 
 -- ---- the call ends
@@ -146,3 +151,9 @@ returns-in_err-next-clause-builder g c = builder_goes_on g.D.Delegate.starts g.D
 pub returns-in-Finished-clause-builder : goal.returns-in-Finished-clause-builder
 returns-in-Finished-clause-builder g c = builder_goes_on g.D.Delegate.starts g.D.Delegate.noop c.args.inspect.now
     c.loop-next.inspect c.take_turn.new.inspect c.loop-next.invariant.builder c.take_turn.ensures.builder
+
+pub returns-in-Finished-clause-seen : goal.returns-in-Finished-clause-seen
+returns-in-Finished-clause-seen g c fresh =
+    subst (λ goals. g.D.Delegate.sees c.take_turn.new.inspect c.args.input (Some (frames_of goals)))
+    (none_turned (rw c.in-Finished.is at c.in_ok-next.ensures.turned))
+    (c.in_ok-next.ensures.seen.at c.args.input (c.loop-next.invariant.seen fresh))

@@ -1,4 +1,5 @@
-use Rattle.std.proofs.Common.{Ok}
+use Rattle.std.proofs.Common.{None, Ok, Some}
+use Rattle.goal_changes.specs.Frames.{frames_of}
 use Rattle.search_graph.specs.Below.{KeepsBuilder, Step, work_left}
 use Rattle.search_graph.specs.Ran.{Ran}
 use Rattle.path_kinds.specs.declared.path.PathKind.TheVariants.{Inductive}
@@ -11,6 +12,8 @@ invariant-loop-next g l = record {
       Inductive l.fn.input l.fn.fate l.fn.cache l.fn.evaluation (g.D.Delegate.starts l.fn.inspect)
       (Ok (Step l.received)) l.cache l.evaluation (g.D.Delegate.starts l.inspect);
   builder : KeepsBuilder g.D.Delegate.starts g.D.Delegate.noop l.fn.inspect l.inspect;
+  seen : g.D.Delegate.sees l.fn.inspect l.fn.input None
+      → g.D.Delegate.sees l.inspect l.fn.input (Some (frames_of l.evaluation.goals));
 }
 
 abbrev pub decreases-loop-next : goal.decreases-loop-next

@@ -7,15 +7,15 @@ use std::fs::File;
 use std::io::Write;
 use trait_texts::Source;
 
-/// The text of a file.
+/// The text of a file, and by what path the file was named.
 #[derive(Drop)]
-pub(crate) struct Text<'a> {
-    pub(crate) name: &'a str,
-    pub(crate) bytes: Vec<u8>,
+pub struct Text<'a> {
+    pub name: &'a str,
+    pub bytes: Vec<u8>,
 }
 
 /// The texts of the files of these paths, or standard input where there are none.
-pub(crate) fn read_texts<'a>(rt: &HostRuntime, files: &[&'a str]) -> Result<Vec<Text<'a>>, Stop> {
+pub fn read_texts<'a>(rt: &HostRuntime, files: &[&'a str]) -> Result<Vec<Text<'a>>, Stop> {
     let alloc = rt.alloc();
     let mut texts = Vec::new(alloc);
     for name in files {
@@ -30,7 +30,7 @@ pub(crate) fn read_texts<'a>(rt: &HostRuntime, files: &[&'a str]) -> Result<Vec<
 }
 
 /// What the file of this path has.
-pub(crate) fn read_file(rt: &HostRuntime, path: &str) -> Result<Vec<u8>, Stop> {
+pub fn read_file(rt: &HostRuntime, path: &str) -> Result<Vec<u8>, Stop> {
     match File::open(rt, path) {
         Ok(mut file) => Ok(read_input(rt.alloc(), &mut file)?),
         Err(error) => {
@@ -42,10 +42,7 @@ pub(crate) fn read_file(rt: &HostRuntime, path: &str) -> Result<Vec<u8>, Stop> {
 }
 
 /// The texts as they are read. There is room for one more.
-pub(crate) fn sources_of<'a>(
-    alloc: Global,
-    texts: &'a [Text<'_>],
-) -> Result<Vec<Source<'a>>, AllocError> {
+pub fn sources_of<'a>(alloc: Global, texts: &'a [Text<'_>]) -> Result<Vec<Source<'a>>, AllocError> {
     let mut sources = Vec::with_capacity(alloc, texts.len().saturating_add(1))?;
     for text in texts {
         sources.push(Source {

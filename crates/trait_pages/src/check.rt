@@ -3,24 +3,24 @@
 mod data;
 mod same_rules;
 
-use crate::labels::write_full_goal;
-use crate::program::{all_goals, read_texts};
+use crate::names::Names;
+use crate::reading::{all_goals, declared_in};
 use crate::stop::Stop;
 use crate::text::{Text, sources_of};
-pub(crate) use data::write_names;
+pub use data::write_names;
 use data::{Data, read_data};
 use graph_data::reading::claims_of_text;
 use graph_pages::check as check_page;
 use same_rules::are_same_rules;
-use shown_graphs::NoProgress;
 use std::alloc::Global;
 use std::io::Write;
 use trait_goals::Goals;
 use trait_texts::{Declarations, Source, Spelling};
+use watched_runs::NoProgress;
 
 /// Checks data that this program wrote, by the declarations of these texts: the rules in the data have to be theirs, and the
 /// checker, which knows nothing of the search, says of each answer whether it accepts its graph. Whether none was refused.
-pub(crate) fn check<W: Write>(
+pub fn check<W: Write>(
     alloc: Global,
     texts: &[Text<'_>],
     as_rustc: bool,
@@ -61,7 +61,7 @@ fn read_with_names<'a>(
         name: file.as_bytes(),
         text: data.questions.as_slice(),
     })?;
-    read_texts(alloc, sources.as_slice(), as_rustc)
+    declared_in(alloc, sources.as_slice(), as_rustc)
 }
 
 // The goals have to be called what the data calls them.
@@ -123,10 +123,15 @@ fn are_named(
     goals: &Goals,
     spelling: &Spelling<'_>,
 ) -> Result<bool, Stop> {
+    let names = Names {
+        goals,
+        spelling,
+        are_full: true,
+    };
     let mut spelled = Vec::new(alloc);
     for (goal, name) in data.names.iter().enumerate() {
         spelled.clear();
-        write_full_goal(alloc, &mut spelled, goals, spelling, goal)?;
+        names.write(alloc, &mut spelled, goal)?;
         if spelled.as_slice() != name.as_slice() {
             return Ok(false);
         }

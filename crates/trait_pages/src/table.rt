@@ -11,7 +11,7 @@ const MOST_DEPTH: usize = 9_999_999;
 
 /// Rules for all goals, and questions for some. A goal is named by its number, and the labels are told in comments. It has a rule
 /// for each of its candidates, in order; one whose candidates are not known asks itself by forced ambiguity.
-pub(crate) fn write_table(
+pub fn write_table(
     alloc: Global,
     goals: &Goals,
     labels: &[Vec<u8>],

@@ -6,7 +6,7 @@ use std::alloc::{AllocError, Global};
 
 /// Data that was read.
 #[derive(Drop)]
-pub(crate) struct Data<'a> {
+pub(super) struct Data<'a> {
     /// What each goal is called, by its number.
     pub(super) names: Vec<Vec<u8>>,
     /// A text that asks each of these goals.
@@ -16,7 +16,7 @@ pub(crate) struct Data<'a> {
 }
 
 /// Writes the line of names.
-pub(crate) fn write_names(alloc: Global, names: &[Vec<u8>]) -> Result<Vec<u8>, AllocError> {
+pub fn write_names(alloc: Global, names: &[Vec<u8>]) -> Result<Vec<u8>, AllocError> {
     let mut writer = Writer::new(Vec::new(alloc));
     writer.begin_object()?;
     writer.key("goals")?;

@@ -5,9 +5,9 @@
 ghost use Rattle.std.specs.Prelude.{◌≡◌};
 ghost use Rattle.trait_goals.specs.Trying.{Extends};
 
+use crate::goals::Goals;
 use search_context::context::NoMemory;
 use std::alloc::Global;
-use trait_goals::Goals;
 
 /// How many steps are made at most to find a goal that is not known.
 const STEPS: usize = 1 << 24;
@@ -50,7 +50,7 @@ struct Scout {
 }
 
 /// Makes goals known that a search comes to from these at this depth, until there are so many goals.
-pub(crate) fn make_known(
+pub fn make_known(
     alloc: Global,
     goals: &mut Goals,
     asked: &[usize],
