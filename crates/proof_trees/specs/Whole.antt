@@ -1,5 +1,5 @@
 -- When entries are those of a goal that was worked out from its first run to the end of its last one.
-use Rattle.std.specs.Prelude.{◌-◌, ◌&&◌, ℕ, nat_eq, Bool, false, length, List, None, Some, slice_get, true}
+use Rattle.std.specs.Prelude.{◌-◌, ◌&&◌, nat_eq, Bool, false, length, List, None, Some, slice_get, true}
 use Rattle.std.specs.Option.{option_map_or}
 use Rattle.proof_trees.specs.declared.entry.Entry.{Entry}
 use Rattle.proof_trees.specs.declared.entry.Part.{Part}

@@ -11,6 +11,7 @@
 //! |---|---|
 //! | `Entries` | what is recorded of a run, of its requests and of the replies to them |
 //! | `Recorder` | what a recorder has recorded, and what each call adds |
+//! | `Recorded` | how entries come about, each by the start of a run or a step of the newest run that is open |
 //! | `Text` | the lines of a tree |
 //! | `Whole` | when entries are those of a goal that was worked out to its end |
 #![tactic(auto)]
@@ -20,11 +21,9 @@ pub mod law;
 pub mod recorder;
 pub mod recording;
 mod run_record;
-mod whole;
 pub mod writing;
 
 pub use entry::{Entry, Part};
 pub use recorder::Recorder;
 pub use recording::Recording;
-pub use whole::is_whole;
 pub use writing::{Words, write_entries};

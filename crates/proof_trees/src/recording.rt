@@ -1,7 +1,10 @@
 //! A delegate whose builder records.
-ghost use Rattle.std.specs.Prelude.{◌≡◌, ◌≤◌, ◌<◌, ◌+◌, ℕ, true, [], IfOk, OnOk, Some};
+ghost use Rattle.std.specs.Prelude.{◌≡◌, ◌≤◌, ◌<◌, ◌+◌, ℕ, true, List, [], ◌∷◌, IfOk, Ok, OnOk, Some};
+ghost use Rattle.search_context.specs.Delegate.{left_open};
 ghost use Rattle.proof_trees.specs.Below.{CanTake, CountsOne, Steps};
-ghost use Rattle.proof_trees.specs.Entries.{entry_of_reply, entry_of_request, entry_of_run, new_record, record_after};
+ghost use Rattle.proof_trees.specs.Entries.{entry_of_reply, entry_of_request, entry_of_run, new_record, place_after};
+ghost use Rattle.proof_trees.specs.Entries.{record_after};
+ghost use Rattle.proof_trees.specs.Recorded.{HasSeen};
 ghost use Rattle.proof_trees.specs.Recorder.{and_entry, entries_of, inner_of, IsPrefix, next_of, records, with_entry};
 
 use crate::recorder::Recorder;
@@ -40,6 +43,7 @@ pub type RecordedFrameOf<D> = RecordedFrame<
 
 impl<D: Delegate> Delegate for Recording<D> {
     ghost use Rattle.std.specs.Prelude.{◌&&◌, not};
+    ghost use Rattle.proof_trees.specs.declared.recording.RecordedFrame.{RecordedFrame};
 
     type Cx = D::Cx;
 
@@ -90,6 +94,8 @@ impl<D: Delegate> Delegate for Recording<D> {
     ghost noop = { λ recorder. D.noop (inner_of recorder) && not (records recorder) };
 
     ghost scoped = { D.scoped };
+
+    ghost sees = { HasSeen };
 
     ghost yes_is_proved = { D.yes_is_proved };
 
@@ -173,6 +179,9 @@ impl<D: Delegate> Delegate for Recording<D> {
         ensures same_starts { D.starts (inner_of inspect.new) ≡ D.starts (inner_of inspect.old) }
         ensures same_noop { (D.noop (inner_of inspect.new) && not (records inspect.new))
             ≡ (D.noop (inner_of inspect.old) && not (records inspect.old)) }
+        ensures seen { (request : Request D.Cx.Input D.Cx.Result) → result ≡ Ok request → (goal : D.Cx.Input)
+            (below : List (RecordedFrame D.Frame D.Cx.Input D.Cx.Result)) → HasSeen inspect.old goal (Some (frame.old ∷ below))
+            → HasSeen inspect.new goal (Some (left_open request (frame.new ∷ below))) }
     {
         step_recorded::<D>(frame, reply, inspect)
     }
@@ -213,6 +222,7 @@ pub fn start_recorded<D: Delegate>(
     ensures entries { OnOk result (entries_of inspect.new
         ≡ with_entry inspect.old (Some (entry_of_run (new_record input (next_of inspect.old))))) }
     ensures run { IfOk result (λ recorded. recorded.run ≡ new_record input (next_of inspect.old)) }
+    ensures next { next_of inspect.new ≡ next_of inspect.old }
 {
     let frame = D::start(cx, input, &mut inspect.inner)?;
     let run = inspect.note_start(input)?;
@@ -245,6 +255,8 @@ pub fn step_recorded<D: Delegate>(
         (entry_of_reply frame.old.run frame.old.run.request reply))
         (entry_of_request frame.old.run request)) }
     ensures run { IfOk result (λ request. frame.new.run ≡ record_after frame.old.run request) }
+    ensures next { IfOk result (λ request.
+        next_of inspect.new ≡ place_after frame.old.run (next_of inspect.old) request) }
 {
     inspect.note_reply(frame.run, reply)?;
     let request = D::step(&mut frame.frame, reply, &mut inspect.inner)?;

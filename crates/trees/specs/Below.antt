@@ -2,7 +2,9 @@
 pub use Rattle.delegate_parts.specs.Builder.{started_in}
 pub use Rattle.delegate_parts.specs.declared.builder.Builder.{Builder}
 pub use Rattle.delegate_parts.specs.declared.outcome.Outcome.{Outcome}
-pub use Rattle.proof_trees.specs.Recorder.{entries_of, inner_of, records}
+pub use Rattle.proof_trees.specs.Entries.{root_place}
+pub use Rattle.proof_trees.specs.Recorded.{HasSeen, Recorded}
+pub use Rattle.proof_trees.specs.Recorder.{entries_of, inner_of, next_of, records}
 pub use Rattle.proof_trees.specs.Text.{text_of}
 pub use Rattle.proof_trees.specs.Whole.{is_whole}
 pub use Rattle.proof_trees.specs.declared.entry.Entry.{Entry}

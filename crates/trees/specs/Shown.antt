@@ -1,12 +1,12 @@
 -- What is shown of questions.
-use Rattle.std.specs.Prelude.{◌≡◌, ℕ, ◌+◌, ◌≤◌, ◌&&◌, codes, if◌then◌else◌, nat_eq, not, max, All, Bool, true, false}
-use Rattle.std.specs.Prelude.{List, [], ◌∷◌, ◌++◌, is_ok, Option, Result, IfOk, IfErr}
+use Rattle.std.specs.Prelude.{◌≡◌, ℕ, ◌+◌, ◌≤◌, nat_eq, max, All, Bool, true, false, List, [], ◌∷◌, ◌++◌, is_ok}
+use Rattle.std.specs.Prelude.{Option, None, Some, Result, IfOk, IfErr, OnOk}
 use Rattle.answer_lines.specs.Trees.{answer_words}
 use Rattle.line_texts.specs.Questions as asked
 use Rattle.trees.specs.Below.{Answer, Builder, Cache, CxOf, DelegateOf, entries_of, Fault, frames_within, Goal, Graph}
 use Rattle.trees.specs.Below.{HasRun, inner_of, IsCaused, IsPlainTo, IsPlainValue, IsProved, IsRefuted, is_whole}
-use Rattle.trees.specs.Below.{Memory, name_or_none, number_of, Outcome, questions_of, Recorder, records, Rules}
-use Rattle.trees.specs.Below.{started_in, text_of, words_of}
+use Rattle.trees.specs.Below.{Memory, name_or_none, next_of, number_of, Outcome, questions_of, Recorded, Recorder}
+use Rattle.trees.specs.Below.{records, root_place, Rules, started_in, text_of, words_of}
 
 -- what was recorded of a question, and the answer or the fault that it came to
 pub record Tree : Type 0 where
@@ -25,17 +25,11 @@ is_fine tree = is_ok tree.came
 abbrev pub same_goal : Goal → Goal → Bool
 same_goal a b = nat_eq (number_of a) (number_of b)
 
--- Where a goal was answered, and what was recorded does not begin with its first run or not end with the end
--- of one, a line says so.
-abbrev pub doubt_words : Goal → Tree → List ℕ
-doubt_words goal tree = if is_ok tree.came && not (is_whole same_goal goal (entries_of tree.recorder))
-    then codes "these entries are no tree\n" else []
-
 -- the lines of all that was recorded, and the line of what the goal came to, with the number of
 -- frames that were counted
 abbrev pub tree_words : Rules → Goal → Tree → List ℕ
 tree_words rules goal tree =
-    text_of (words_of rules) (entries_of tree.recorder) ++ doubt_words goal tree ++ name_or_none rules goal
+    text_of (words_of rules) (entries_of tree.recorder) ++ name_or_none rules goal
     ++ answer_words tree.came (started_in (inner_of tree.recorder))
 
 -- those of a question
@@ -46,7 +40,21 @@ words_shown rules shown = tree_words rules shown.question.1 shown.came
 pub record IsFresh (recorder : Recorder Builder Goal Outcome) : Type 0 where
   pub recording : records recorder ≡ true
   pub no_entries : entries_of recorder ≡ []
+  pub at_root : next_of recorder ≡ root_place
   pub no_frames : started_in (inner_of recorder) ≡ 0
+
+-- The entries were recorded of a call that works the goal out, of which no run is open any longer: each comes from the
+-- start of a run, or from a step of the newest run that was open.
+abbrev pub IsRecorded : Goal → Recorder Builder Goal Outcome → Type 0
+IsRecorded goal recorder = Recorded goal (Some []) (next_of recorder) (entries_of recorder)
+
+-- What a delegate's builder sees of a call is what is recorded of it: a fresh one has seen that no run was started, and
+-- where one has seen that no run is open any longer, its entries were recorded so.
+pub record SeesRecords {F : Type 0} (sees : Recorder Builder Goal Outcome → Goal → Option (List F) → Type 0) :
+    Type 0 where
+  pub at_first : (recorder : Recorder Builder Goal Outcome) (goal : Goal) → IsFresh recorder → sees recorder goal None
+  pub at_last : (recorder : Recorder Builder Goal Outcome) (goal : Goal)
+      → sees recorder goal (Some []) → IsRecorded goal recorder
 
 module _ {D C V F A T : Type 0} (G : DelegateOf D C V (Recorder Builder Goal Outcome) F Goal Outcome A T)
     (X : CxOf C Goal Outcome A T) (same : Goal → Goal → Bool) (same_result : Outcome → Outcome → Bool) where
@@ -55,7 +63,11 @@ module _ {D C V F A T : Type 0} (G : DelegateOf D C V (Recorder Builder Goal Out
   pub record IsWorkedOut (cx : C) (shown : ShownQuestion) : Type 0 where
     pub fresh : Recorder Builder Goal Outcome
     pub is_fresh : IsFresh fresh
-    -- It is no more a no-op at the end than it was.
+    -- Where the question was answered, its entries were recorded until no run was open any longer. So they begin with
+    -- its goal's own first run, at level 0, and end with the end of a run of that level.
+    pub recorded : OnOk shown.came.came (IsRecorded shown.question.1 shown.came.recorder)
+    pub whole : OnOk shown.came.came (is_whole same_goal shown.question.1 (entries_of shown.came.recorder) ≡ true)
+    -- The recorder is no more a no-op at the end than it was.
     pub records : G.noop shown.came.recorder ≡ G.noop fresh
     pub before : Cache C Goal Outcome A T
     pub is_empty : before ≡ record { cx = cx; nodes = []; results = [] }

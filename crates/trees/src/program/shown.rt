@@ -1,11 +1,11 @@
 //! How questions are answered, and shown.
 ghost use Rattle.std.specs.Prelude.{◌≡◌, ◌⊎◌, ◌++◌, IfErr, IfOk, OnErr, OnOk};
-ghost use Rattle.trees.specs.Shown.{AreAllShown, AreFirstShown, IsTreeShown, doubt_words, tree_words};
+ghost use Rattle.trees.specs.Shown.{AreAllShown, AreFirstShown, IsTreeShown, SeesRecords, tree_words};
 
 use answer_lines::trees::write_answer;
 use delegate_parts::{Builder, Outcome};
 use line_texts::{Flush, write_bytes};
-use proof_trees::{Recorder, Words, is_whole, write_entries};
+use proof_trees::{Recorder, Words, write_entries};
 use rule_tables::{Goal, Rules, Stop};
 use search_graph::graph::SearchGraph;
 use search_parts::context::{Answer, Cx, Delegate, Fault};
@@ -27,6 +27,8 @@ where
     X: Cx<Input = Goal, Result = Outcome>,
     D: Delegate<Cx = X, ProofTreeBuilder = Recorder<Builder, Goal, Outcome>>,
     W: Flush,
+    requires sees { SeesRecords D.sees }
+
     // All questions were worked out in order, and their trees written.
     ensures told { IfOk result
         (AreAllShown D.Delegate X.Cx ⟦<Goal as PartialEq>⟧.eq ⟦<Outcome as PartialEq>⟧.eq
@@ -65,6 +67,7 @@ fn show<X, D>(
 where
     X: Cx<Input = Goal, Result = Outcome>,
     D: Delegate<Cx = X, ProofTreeBuilder = Recorder<Builder, Goal, Outcome>>,
+    requires sees { SeesRecords D.sees }
     ensures shown { IfOk result (λ fine.
         IsTreeShown D.Delegate X.Cx ⟦<Goal as PartialEq>⟧.eq ⟦<Outcome as PartialEq>⟧.eq
         cx rules.now (depth, goal) fine text.new.items) }
@@ -86,8 +89,7 @@ where
     }
 }
 
-// Appends the tree that was recorded, with a line that says so where an answered goal's entries are no whole one, what the goal
-// came to, and an empty line.
+// Appends the tree that was recorded, what the goal came to, and an empty line.
 fn write_tree(
     text: &mut Vec<u8>,
     rules: &Rules,
@@ -100,23 +102,7 @@ fn write_tree(
 {
     let words = TableWords { rules };
     write_entries(text, &words, recorder.entries())?;
-    text.write_all(doubt(recorder, goal, came))?;
     words.write_goal(text, goal)?;
     write_answer(text, came, recorder.inner().started())?;
     Ok(())
-}
-
-// What is written where the entries of a goal that was answered are no whole tree. No search comes to that.
-fn doubt(
-    recorder: &Recorder<Builder, Goal, Outcome>,
-    goal: Goal,
-    came: Result<Answer<Outcome>, Fault<Goal, Outcome>>,
-) -> &'static [u8]
-    ensures { result.now ≡ doubt_words goal (record { recorder = recorder.now; came = came }) }
-{
-    if came.is_ok() && !is_whole(recorder.entries(), goal) {
-        b"these entries are no tree\n"
-    } else {
-        b""
-    }
 }

@@ -1,7 +1,11 @@
 use Rattle.std.proofs.Common.{subst}
 use Rattle.trees.specs.Below.{Reads}
 use Rattle.line_texts.proofs.Questions.{begun_of_text, told_of_text}
+use Rattle.trees.proofs.Trees.{sees_records}
 use Rattle.trees.proofs.program.show_input.Goals as goal
+
+pub show_questions-requires : goal.show_questions-requires
+show_questions-requires g c = sees_records
 
 pub returns-clause-told : goal.returns-clause-told
 returns-clause-told g c =
