@@ -5,7 +5,7 @@ use Rattle.trees.proofs.Trees.{sees_records}
 use Rattle.trees.proofs.program.show_input.Goals as goal
 
 pub show_questions-requires : goal.show_questions-requires
-show_questions-requires g c = sees_records
+show_questions-requires g c = record { sees = sees_records }
 
 pub returns-clause-told : goal.returns-clause-told
 returns-clause-told g c =
