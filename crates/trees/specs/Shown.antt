@@ -1,5 +1,5 @@
 -- What is shown of questions.
-use Rattle.std.specs.Prelude.{◌≡◌, ℕ, ◌+◌, ◌≤◌, nat_eq, max, All, Bool, true, false, List, [], ◌∷◌, ◌++◌, is_ok}
+use Rattle.std.specs.Prelude.{◌≡◌, ℕ, ◌+◌, ◌≤◌, nat_eq, max, All, Bool, true, false, List, [], ◌++◌, is_ok}
 use Rattle.std.specs.Prelude.{Option, None, Some, Result, IfOk, IfErr, OnOk}
 use Rattle.answer_lines.specs.Trees.{answer_words}
 use Rattle.line_texts.specs.Questions as asked
