@@ -2,7 +2,8 @@
 use Rattle.std.specs.Prelude.{◌≡◌, ℕ, ◌+◌, ◌≤◌, Bool, false, List, [], ◌∷◌, ◌⊎◌, Option, None, Some}
 use Rattle.search_context.specs.Below.{PathKind, is_inductive, is_coinductive}
 use Rattle.search_context.specs.declared.context.Request.{Request}
-use Rattle.search_context.specs.declared.context.Request.TheVariants.{Done, EnterCandidate, Evaluate, FinishCandidate, Ignore}
+use Rattle.search_context.specs.declared.context.Request.TheVariants.{Done, EnterCandidate, Evaluate, FinishCandidate}
+use Rattle.search_context.specs.declared.context.Request.TheVariants.{Ignore}
 use Rattle.search_context.specs.declared.context.Reply.{Reply}
 use Rattle.search_context.specs.Run.{IsFitting}
 

@@ -19,8 +19,8 @@ abbrev pub question_depth : {D C V P F I R A T : Type 0} → DelegateOf D C V P 
     → Evaluation D C V P F I R A T → Option ℕ
 question_depth G e = option_and_then (λ s. depth_below G.DIVIDE_AVAILABLE_DEPTH_ON_OVERFLOW s.0) (newest e.goals)
 
--- where the builder had seen a call that has these frames open, it has seen that the goal's first frame was started: that
--- of the call itself where none was
+-- Where the builder had seen a call that has these frames open, it has seen that the goal's first frame was started:
+-- that of the call itself where there was none.
 pub record SeesStart {P I F : Type 0} (sees : P → I → Option (List F) → Type 0) (input : I) (old new : P)
     (before after : List F) : Type 0 where
   pub at : (goal : I) (frames : Option (List F)) → sees old goal frames → (frames ≡ None → goal ≡ input)

@@ -35,7 +35,8 @@ module _ (made : List Made) where
   still_goal : (table more : Table) (question : Question) (goal : ℕ) → Extends table more
       → IsGoalOf made table question goal → IsGoalOf made more question goal
   still_goal table more question goal kept h = record {
-    asks = λ within. kept.keeps_asked.at goal (record { subject = question.subject; bound = question.bound }) (h.asks within);
+    asks = λ within. kept.keeps_asked.at goal (record { subject = question.subject; bound = question.bound })
+        (h.asks within);
   }
 
   -- one more question

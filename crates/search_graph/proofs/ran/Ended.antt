@@ -25,8 +25,8 @@ module _ {D C V P F I R A T : Type 0} {G : DelegateOf D C V P F I R A T} {X : Cx
     {same_result : R → R → Bool} where
   none_at_end :
       {outcome : R} {old : Cache C I R A T} {e : Evaluation D C V P F I R A T} {starts : ℕ}
-      {result : Result (Next R) (Fault I R)} {new : Cache C I R A T} {after : Evaluation D C V P F I R A T} {later : ℕ}
-      → RunEnds G X same same_result outcome old e starts result new after later
+      {result : Result (Next R) (Fault I R)} {new : Cache C I R A T} {after : Evaluation D C V P F I R A T}
+      {later : ℕ} → RunEnds G X same same_result outcome old e starts result new after later
       → IfEnd result (λ answer. after.goals ≡ [])
   none_at_end {outcome} {old} {e} (EndedDone entry run reason result new after comes pops) =
       none_if_popped _ e.goals after.goals _ result (λ next p. p.left) pops.popped
@@ -38,8 +38,8 @@ module _ {D C V P F I R A T : Type 0} {G : DelegateOf D C V P F I R A T} {X : Cx
   module _ {noop : Bool} {received : Received R} {old : Cache C I R A T} {e : Evaluation D C V P F I R A T} {starts : ℕ}
     where
       none_advanced :
-          {result : Result (Next R) (Fault I R)} {new : Cache C I R A T} {after : Evaluation D C V P F I R A T} {later : ℕ}
-          → Advanced G X same same_result noop received old e starts result new after later
+          {result : Result (Next R) (Fault I R)} {new : Cache C I R A T} {after : Evaluation D C V P F I R A T}
+          {later : ℕ} → Advanced G X same same_result noop received old e starts result new after later
           → IfEnd result (λ answer. after.goals ≡ [])
       none_advanced (FrameFailed fault goals failed) = tt
       none_advanced (Asked kind goal goals given new after later stepped asks keeps) = tt
@@ -49,8 +49,8 @@ module _ {D C V P F I R A T : Type 0} {G : DelegateOf D C V P F I R A T} {X : Cx
       none_advanced (NotNoted request goals left stepped) = tt
 
       pub none_turned :
-          {result : Result (Next R) (Fault I R)} {new : Cache C I R A T} {after : Evaluation D C V P F I R A T} {later : ℕ}
-          → Turned G X same same_result noop received old e starts result new after later
+          {result : Result (Next R) (Fault I R)} {new : Cache C I R A T} {after : Evaluation D C V P F I R A T}
+          {later : ℕ} → Turned G X same same_result noop received old e starts result new after later
           → IfEnd result (λ answer. after.goals ≡ [])
       none_turned (GoesOn given mid new between after later advanced goes is first stored) = tt
       none_turned (Answered answer mid new after later advanced goes) = none_advanced advanced

@@ -3,7 +3,8 @@ use Rattle.std.proofs.Common.{◌≡◌, ◌<◌, List, [], ◌∷◌, Option, N
 use Rattle.search_context.specs.Delegate.{SeesOn, without_newest}
 use Rattle.search_context.specs.declared.context.NodeId.{NodeId}
 use Rattle.search_context.specs.declared.context.Request.{Request}
-use Rattle.search_context.specs.declared.context.Request.TheVariants.{Done, EnterCandidate, Evaluate, FinishCandidate, Ignore}
+use Rattle.search_context.specs.declared.context.Request.TheVariants.{Done, EnterCandidate, Evaluate, FinishCandidate}
+use Rattle.search_context.specs.declared.context.Request.TheVariants.{Ignore}
 use Rattle.goal_changes.specs.Candidates.{NotesCandidate}
 use Rattle.goal_changes.specs.Frames.{frames_of}
 use Rattle.goal_changes.specs.Items.{AnswersNewest, rerun_with, with_no_record}
@@ -38,8 +39,10 @@ module _ {X F I R A T : Type 0} where
   noted_frames (Done r) old new h = ap frames_of h
 
   -- a goal that is run again has the frame of the new run
-  pub reran_frames : (r : R) (target : Option NodeId) (frame : F) (own : NodeId) (old mid new : List (OpenGoal X F I R A T))
-      → 0 < length old → mid ≡ change_newest with_no_record old → new ≡ change_newest (rerun_with r target frame own) mid
+  pub reran_frames :
+      (r : R) (target : Option NodeId) (frame : F) (own : NodeId) (old mid new : List (OpenGoal X F I R A T))
+      → 0 < length old → mid ≡ change_newest with_no_record old
+      → new ≡ change_newest (rerun_with r target frame own) mid
       → frame ∷ without_newest (frames_of old) ≡ frames_of new
   reran_frames r target frame own [] mid new some taken runs = absurd (omega (arith, some))
   reran_frames r target frame own (s ∷ below) mid new some taken runs =
