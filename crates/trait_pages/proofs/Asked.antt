@@ -10,7 +10,7 @@ use Rattle.trait_goals.specs.Known.{Table}
 use Rattle.trait_goals.specs.Trying.{Extends}
 use Rattle.trait_pages.specs.Asked.{AreGoalsOf, IsGoalOf}
 use Rattle.trait_rules.proofs.Numbers.{in_longer}
-use Rattle.trait_rules.specs.Terms.{Made}
+use Rattle.trait_rules.specs.declared.made.Made.{Made}
 use Rattle.trait_texts.specs.declared.declarations.Question.{Question}
 
 module _ (made : List Made) where

@@ -1,7 +1,7 @@
 -- The goals of questions.
 use Rattle.std.specs.Prelude.{◌≡◌, ◌<◌, ℕ, List, length, slice_get, Some}
 use Rattle.trait_goals.specs.Known.{Table}
-use Rattle.trait_rules.specs.Terms.{Made}
+use Rattle.trait_rules.specs.declared.made.Made.{Made}
 use Rattle.trait_texts.specs.declared.declarations.Question.{Question}
 
 -- the goal of this number asks what the question does, if its type is one of these

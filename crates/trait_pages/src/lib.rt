@@ -10,7 +10,7 @@
 //! | `Stop` | exit statuses |
 #![tactic(auto)]
 
-mod check;
+mod checking;
 mod lines;
 mod names;
 mod reading;
@@ -18,7 +18,7 @@ mod stop;
 mod table;
 mod text;
 
-pub use check::{check, write_names};
+pub use checking::{check, write_names};
 pub use lines::{Came, is_maybe, tell_all};
 pub use names::Names;
 pub use reading::{all_goals, declared_in};

@@ -11,37 +11,43 @@ use crate::step::{Part, Row};
 
 // Parameters, where-clauses and bounds.
 
-const PARAMETERS: &[Row] = &[(At("<"), &[Pass, Go(ParameterList)]), (Else, &[])];
-
-const PARAMETER_LIST: &[Row] = &[
-    (At(">"), &[Pass]),
-    (AtLifetime, &[Pass, Go(LifetimeBounds), Go(ParametersNext)]),
-    (
-        Else,
-        &[Name, Do(Parameter), Go(ParameterBounds), Go(ParametersNext)],
-    ),
+const PARAMETERS: &[Row] = &[
+    (At("<"), &[Pass, Go(ParameterList), Word(">")]),
+    (Else, &[]),
 ];
 
-const PARAMETERS_NEXT: &[Row] = &[(At(","), &[Pass, Go(ParameterList)]), (Else, &[Word(">")])];
+const PARAMETER_LIST: &[Row] = &[
+    (At(">"), &[]),
+    (
+        AtLifetime,
+        &[Pass, If(":", Outlives), If(",", ParameterList)],
+    ),
+    (
+        Else,
+        &[
+            Name,
+            Do(Parameter),
+            Go(ParameterBounds),
+            If(",", ParameterList),
+        ],
+    ),
+];
 
 const PARAMETER_BOUNDS: &[Row] = &[
     (At(":"), &[Pass, Go(Bounds), Do(EndBounds)]),
     (Else, &[Do(EndBounds)]),
 ];
 
-const LIFETIME_BOUNDS: &[Row] = &[(At(":"), &[Pass, Go(Outlives)]), (Else, &[])];
-
-const OUTLIVES: &[Row] = &[(AtLifetime, &[Pass, Go(OutlivesNext)]), (Else, &[])];
-
-const OUTLIVES_NEXT: &[Row] = &[(At("+"), &[Pass, Go(Outlives)]), (Else, &[])];
-
-const WHERE: &[Row] = &[(At("where"), &[Pass, Go(WhereList)]), (Else, &[])];
+const OUTLIVES: &[Row] = &[(AtLifetime, &[Pass, If("+", Outlives)]), (Else, &[])];
 
 const WHERE_LIST: &[Row] = &[
     (At("{"), &[]),
     (At(";"), &[]),
     (AtEnd, &[]),
-    (AtLifetime, &[Pass, Word(":"), Go(Outlives), Go(WhereNext)]),
+    (
+        AtLifetime,
+        &[Pass, Word(":"), Go(Outlives), If(",", WhereList)],
+    ),
     (
         Else,
         &[
@@ -50,29 +56,25 @@ const WHERE_LIST: &[Row] = &[
             Word(":"),
             Go(Bounds),
             Do(EndBounds),
-            Go(WhereNext),
+            If(",", WhereList),
         ],
     ),
 ];
 
-const WHERE_NEXT: &[Row] = &[(At(","), &[Pass, Go(WhereList)]), (Else, &[])];
 // Bounds of parameters, of types in where-clauses and of traits. There may be none, and `+` may end them.
 const BOUNDS: &[Row] = &[
-    (AtLifetime, &[Pass, Go(BoundsNext)]),
-    (At("?"), &[Pass, Word("Sized"), Do(Relax), Go(BoundsNext)]),
-    (AtName, &[Pass, Make(Bound), Go(BoundsNext)]),
+    (AtLifetime, &[Pass, If("+", Bounds)]),
+    (At("?"), &[Pass, Word("Sized"), Do(Relax), If("+", Bounds)]),
+    (AtName, &[Pass, Make(Bound), If("+", Bounds)]),
     (Else, &[]),
 ];
 
-const BOUNDS_NEXT: &[Row] = &[(At("+"), &[Pass, Go(Bounds)]), (Else, &[])];
 // What `dyn` types name, several or one.
 const NAMED: &[Row] = &[
-    (AtLifetime, &[Pass, Go(NamedNext)]),
-    (AtName, &[Pass, Make(Bound), Go(NamedNext)]),
+    (AtLifetime, &[Pass, If("+", Named)]),
+    (AtName, &[Pass, Make(Bound), If("+", Named)]),
     (Else, &[]),
 ];
-
-const NAMED_NEXT: &[Row] = &[(At("+"), &[Pass, Go(Named)]), (Else, &[])];
 
 const ONE_NAMED: &[Row] = &[
     (AtLifetime, &[Pass]),
@@ -81,12 +83,10 @@ const ONE_NAMED: &[Row] = &[
 ];
 // What questions ask.
 const ASKED: &[Row] = &[
-    (AtLifetime, &[Pass, Go(AskedNext)]),
-    (AtName, &[Pass, Make(Bound), Go(AskedNext)]),
+    (AtLifetime, &[Pass, If("+", Asked)]),
+    (AtName, &[Pass, Make(Bound), If("+", Asked)]),
     (Else, &[Refuse(NoTrait)]),
 ];
-
-const ASKED_NEXT: &[Row] = &[(At("+"), &[Pass, Go(Asked)]), (Else, &[])];
 
 // Types. Behind a mark a type is narrow: it takes no `+`.
 
@@ -179,39 +179,29 @@ const PATH: &[Row] = &[(Else, &[Make(Begin), Go(Arguments)])];
 
 // In questions, `f::T` is the parameter of a function.
 const ARGUMENTS: &[Row] = &[
-    (At("<"), &[Pass, Go(ArgumentList), Make(EndPath)]),
+    (At("<"), &[Pass, Go(ArgumentList), Word(">"), Make(EndPath)]),
     (At("::"), &[Pass, Name, Make(Constant)]),
     (Else, &[Make(EndPath)]),
 ];
 
 const ARGUMENT_LIST: &[Row] = &[
-    (At(">"), &[Pass]),
-    (AtLifetime, &[Pass, Go(ArgumentsNext)]),
-    (Else, &[Go(Type), Go(ArgumentsNext)]),
+    (At(">"), &[]),
+    (AtLifetime, &[Pass, If(",", ArgumentList)]),
+    (Else, &[Go(Type), If(",", ArgumentList)]),
 ];
-
-const ARGUMENTS_NEXT: &[Row] = &[(At(","), &[Pass, Go(ArgumentList)]), (Else, &[Word(">")])];
 
 /// What the part may be, if it is one of these.
 pub(crate) fn bound_rows(part: Part) -> &'static [Row] {
     match part {
         Part::Parameters => PARAMETERS,
         Part::ParameterList => PARAMETER_LIST,
-        Part::ParametersNext => PARAMETERS_NEXT,
         Part::ParameterBounds => PARAMETER_BOUNDS,
-        Part::LifetimeBounds => LIFETIME_BOUNDS,
         Part::Outlives => OUTLIVES,
-        Part::OutlivesNext => OUTLIVES_NEXT,
-        Part::Where => WHERE,
         Part::WhereList => WHERE_LIST,
-        Part::WhereNext => WHERE_NEXT,
         Part::Bounds => BOUNDS,
-        Part::BoundsNext => BOUNDS_NEXT,
         Part::Named => NAMED,
-        Part::NamedNext => NAMED_NEXT,
         Part::OneNamed => ONE_NAMED,
         Part::Asked => ASKED,
-        Part::AskedNext => ASKED_NEXT,
         other => type_rows(other),
     }
 }
@@ -237,7 +227,6 @@ fn type_rows(part: Part) -> &'static [Row] {
         Part::Path => PATH,
         Part::Arguments => ARGUMENTS,
         Part::ArgumentList => ARGUMENT_LIST,
-        Part::ArgumentsNext => ARGUMENTS_NEXT,
         _ => &[],
     }
 }

@@ -41,8 +41,7 @@ impl Function {
     ) -> Result<(), Stop> {
         let types = program.types_of(alloc, self.draft.shapes(), arguments)?;
         takes_all(self.values.as_slice(), given, types.as_slice())?;
-        program.ask_all(self.draft.clauses(), types.as_slice())?;
-        Ok(())
+        program.ask_all(self.draft.clauses(), types.as_slice())
     }
 }
 

@@ -76,7 +76,10 @@ fn read_words<'a>(
 {
     let names = split_texts(alloc, sources, tokens)?;
     let mut reader = Reader::new(alloc, names.len(), as_rustc)?;
-    read_named(alloc, &mut reader, tokens.as_slice(), sources.len(), names)
+    let told = read_named(alloc, &mut reader, tokens.as_slice(), sources.len(), names);
+    // All its parts at once: a proof that they are let go is long where it is made of one for each.
+    drop(reader);
+    told
 }
 
 // The same of words which have these names.

@@ -2,7 +2,7 @@
 ghost use Rattle.std.specs.Prelude.{◌≡◌, ◌<◌, [], ◌∷◌, ◌++◌, length, IfOk, IfSome, OnOk, slice_get};
 ghost use Rattle.trait_texts.specs.WellFormed.{Each, HasPartsBefore, IsOutermost, IsWellFormed};
 
-use path_kinds::memory::NoMemory;
+use crate::refusal::Stop;
 use std::alloc::Global;
 use std::marker::Model;
 use trait_rules::{Bound, Clause, Rule, Shape};
@@ -33,7 +33,7 @@ impl Draft {
     }
 
     /// So many parameters, and no clause.
-    pub(crate) fn with_parameters(alloc: Global, count: usize) -> Result<Draft, NoMemory> {
+    pub(crate) fn with_parameters(alloc: Global, count: usize) -> Result<Draft, Stop> {
         let mut draft = Draft::new(alloc);
         for _ in 0..count {
             draft.parameter()?;
@@ -42,7 +42,7 @@ impl Draft {
     }
 
     /// The same shapes, and no clause.
-    pub(crate) fn copied(&self, alloc: Global) -> Result<Draft, NoMemory> {
+    pub(crate) fn copied(&self, alloc: Global) -> Result<Draft, Stop> {
         Ok(Draft {
             shapes: Vec::from_slice(alloc, self.shapes.as_slice())?,
             clauses: Vec::new(alloc),
@@ -72,7 +72,7 @@ impl Draft {
     }
 
     // One more shape.
-    fn add(&mut self, shape: Shape) -> Result<usize, NoMemory>
+    fn add(&mut self, shape: Shape) -> Result<usize, Stop>
         requires { HasPartsBefore (length self.old.shapes) shape }
         ensures number { IfOk result (λ number. number ≡ length self.old.shapes) }
         ensures added { OnOk result (self.new.shapes ≡ self.old.shapes ++ shape ∷ []) }
@@ -84,20 +84,20 @@ impl Draft {
     }
 
     /// One more parameter.
-    pub(crate) fn parameter(&mut self) -> Result<usize, NoMemory> {
+    pub(crate) fn parameter(&mut self) -> Result<usize, Stop> {
         self.add(Shape::Parameter)
     }
 
     /// A constructor without arguments.
-    pub(crate) fn constructor(&mut self, constructor: usize) -> Result<usize, NoMemory> {
+    pub(crate) fn constructor(&mut self, constructor: usize) -> Result<usize, Stop> {
         self.add(Shape::Constructor(constructor))
     }
 
     /// A shape with one argument more. Both have to be there.
-    pub(crate) fn applied(&mut self, shape: usize, argument: usize) -> Result<usize, NoMemory> {
+    pub(crate) fn applied(&mut self, shape: usize, argument: usize) -> Result<usize, Stop> {
         let number = self.shapes.len();
         if shape >= number || argument >= number {
-            return Err(NoMemory);
+            return Err(Stop::Memory);
         }
         self.add(Shape::Applied(shape, argument))
     }
@@ -107,7 +107,7 @@ impl Draft {
         &mut self,
         constructor: usize,
         arguments: &[usize],
-    ) -> Result<usize, NoMemory> {
+    ) -> Result<usize, Stop> {
         let mut shape = self.constructor(constructor)?;
         for argument in arguments {
             shape = self.applied(shape, *argument)?;
@@ -116,9 +116,9 @@ impl Draft {
     }
 
     /// One more clause. Its shape has to be there.
-    pub(crate) fn ask(&mut self, shape: usize, bound: Bound) -> Result<(), NoMemory> {
+    pub(crate) fn ask(&mut self, shape: usize, bound: Bound) -> Result<(), Stop> {
         if shape >= self.shapes.len() {
-            return Err(NoMemory);
+            return Err(Stop::Memory);
         }
         self.clauses.push(Clause { shape, bound })?;
         Ok(())
@@ -145,7 +145,7 @@ impl Draft {
         alloc: Global,
         count: usize,
         head: usize,
-    ) -> Result<Option<usize>, NoMemory> {
+    ) -> Result<Option<usize>, Stop> {
         let mut is_used = vec![in alloc; false; count]?;
         mark(is_used.as_mut_slice(), head);
         for shape in self.shapes.as_slice() {
@@ -158,14 +158,14 @@ impl Draft {
     }
 
     /// The rule for types of the shape `head`, which has to be there.
-    pub(crate) fn rule(self, head: usize) -> Result<Rule, NoMemory>
+    pub(crate) fn rule(self, head: usize) -> Result<Rule, Stop>
         ensures well_formed { IfOk result (λ rule. IsWellFormed rule) }
         ensures shapes { IfOk result (λ rule. rule.shapes.items ≡ self.shapes) }
         ensures head { IfOk result (λ rule. rule.head ≡ head) }
     {
         let Draft { shapes, clauses } = self;
         if head >= shapes.len() {
-            return Err(NoMemory);
+            return Err(Stop::Memory);
         }
         Ok(Rule {
             shapes,

@@ -287,8 +287,7 @@ pub(crate) fn finish_fields(
     for argument in 0..arguments {
         head = draft.applied(head, argument)?;
     }
-    program.set_fields(draft, head)?;
-    Ok(())
+    program.set_fields(draft, head)
 }
 
 // These traits and those above them, each once. `met` has for each trait the number of the last fact for which it was met.

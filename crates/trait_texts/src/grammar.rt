@@ -64,7 +64,13 @@ const UNSAFE: &[Row] = &[
 const ITEM: &[Row] = &[
     (
         At("trait"),
-        &[Pass, Name, Do(Trait(false, false)), Go(Traits)],
+        &[
+            Pass,
+            Do(BeginType),
+            Name,
+            Do(Trait(false, false)),
+            Go(Traits),
+        ],
     ),
     (At("impl"), &[Pass, Go(Impl)]),
     (
@@ -87,9 +93,10 @@ const ITEM: &[Row] = &[
             Name,
             Do(NameItem),
             Go(Parameters),
-            Go(Where),
+            If("where", WhereList),
             Word("{"),
             Go(Variants),
+            Word("}"),
             Do(EndType),
         ],
     ),
@@ -147,7 +154,13 @@ const MARKED_TRAIT: &[Row] = &[
     (At("auto"), &[Pass, Go(AutoTrait)]),
     (
         Else,
-        &[Word("trait"), Name, Do(Trait(false, true)), Go(Traits)],
+        &[
+            Word("trait"),
+            Do(BeginType),
+            Name,
+            Do(Trait(false, true)),
+            Go(Traits),
+        ],
     ),
 ];
 
@@ -163,7 +176,13 @@ const LINTS_NEXT: &[Row] = &[
 
 const AUTO_TRAIT: &[Row] = &[(
     Else,
-    &[Word("trait"), Name, Do(Trait(true, true)), Go(Traits)],
+    &[
+        Word("trait"),
+        Do(BeginType),
+        Name,
+        Do(Trait(true, true)),
+        Go(Traits),
+    ],
 )];
 
 const TRAITS: &[Row] = &[(Else, &[Go(Above), Word("{"), Word("}")])];
@@ -181,7 +200,7 @@ const IMPL: &[Row] = &[(
         Word("for"),
         Go(Type),
         Do(SetHead),
-        Go(Where),
+        If("where", WhereList),
         Word("{"),
         Word("}"),
         Do(EndImpl),
@@ -193,21 +212,28 @@ const POLARITY: &[Row] = &[(At("!"), &[Pass, Do(Negate)]), (Else, &[])];
 // Structs and enums.
 
 const STRUCT_FIELDS: &[Row] = &[
-    (At("("), &[Pass, Go(TupleFields), Go(Where), Word(";")]),
-    (Else, &[Go(Where), Go(StructBody)]),
+    (
+        At("("),
+        &[
+            Pass,
+            Go(TupleFields),
+            Word(")"),
+            If("where", WhereList),
+            Word(";"),
+        ],
+    ),
+    (Else, &[If("where", WhereList), Go(StructBody)]),
 ];
 
 const STRUCT_BODY: &[Row] = &[
-    (At("{"), &[Pass, Go(Fields)]),
+    (At("{"), &[Pass, Go(Fields), Word("}")]),
     (Else, &[Word(";"), Do(Unit)]),
 ];
 
 const TUPLE_FIELDS: &[Row] = &[
-    (At(")"), &[Pass]),
-    (Else, &[Go(TupleField), Go(TupleFieldsNext)]),
+    (At(")"), &[]),
+    (Else, &[Go(TupleField), If(",", TupleFields)]),
 ];
-
-const TUPLE_FIELDS_NEXT: &[Row] = &[(At(","), &[Pass, Go(TupleFields)]), (Else, &[Word(")")])];
 
 const TUPLE_FIELD: &[Row] = &[
     (At("pub"), &[Pass, Go(PublicField)]),
@@ -225,7 +251,7 @@ const PUBLIC_PARENTHESIS: &[Row] = &[
 ];
 
 const FIELDS: &[Row] = &[
-    (At("}"), &[Pass]),
+    (At("}"), &[]),
     (
         At("pub"),
         &[
@@ -235,31 +261,27 @@ const FIELDS: &[Row] = &[
             Word(":"),
             Go(Type),
             Do(Field),
-            Go(FieldsNext),
+            If(",", Fields),
         ],
     ),
     (
         Else,
-        &[Name, Word(":"), Go(Type), Do(Field), Go(FieldsNext)],
+        &[Name, Word(":"), Go(Type), Do(Field), If(",", Fields)],
     ),
 ];
 
 const FIELD_VISIBILITY: &[Row] = &[(At("("), &[Pass, Word("crate"), Word(")")]), (Else, &[])];
 
-const FIELDS_NEXT: &[Row] = &[(At(","), &[Pass, Go(Fields)]), (Else, &[Word("}")])];
-
 const VARIANTS: &[Row] = &[
-    (At("}"), &[Pass]),
-    (Else, &[Name, Go(VariantFields), Go(VariantsNext)]),
+    (At("}"), &[]),
+    (Else, &[Name, Go(VariantFields), If(",", Variants)]),
 ];
 
 const VARIANT_FIELDS: &[Row] = &[
-    (At("("), &[Pass, Go(TupleFields)]),
-    (At("{"), &[Pass, Go(Fields)]),
+    (At("("), &[Pass, Go(TupleFields), Word(")")]),
+    (At("{"), &[Pass, Go(Fields), Word("}")]),
     (Else, &[]),
 ];
-
-const VARIANTS_NEXT: &[Row] = &[(At(","), &[Pass, Go(Variants)]), (Else, &[Word("}")])];
 
 // Functions. If there is something in the body, the signature is read once more: there its parameters are types of their own.
 
@@ -278,12 +300,17 @@ const FUNCTION: &[Row] = &[(
 
 const SIGNATURE: &[Row] = &[(
     Else,
-    &[Go(Parameters), Word("("), Go(Values), Go(Where), Word("{")],
+    &[
+        Go(Parameters),
+        Word("("),
+        Go(Values),
+        Word(")"),
+        If("where", WhereList),
+        Word("{"),
+    ],
 )];
 
-const VALUES: &[Row] = &[(At(")"), &[Pass]), (Else, &[Go(Declared), Go(ValuesNext)])];
-
-const VALUES_NEXT: &[Row] = &[(At(","), &[Pass, Go(Values)]), (Else, &[Word(")")])];
+const VALUES: &[Row] = &[(At(")"), &[]), (Else, &[Go(Declared), If(",", Values)])];
 
 const DECLARED: &[Row] = &[(
     Else,
@@ -298,11 +325,21 @@ const PATTERN: &[Row] = &[
 
 const BODY: &[Row] = &[
     (At("}"), &[Pass]),
-    (Else, &[Back, Do(BeginBody), Go(Signature), Go(Statements)]),
+    (
+        Else,
+        &[
+            Back,
+            Do(BeginBody),
+            Go(Signature),
+            Go(Statements),
+            Word("}"),
+        ],
+    ),
 ];
 
+// The last call may stand without `;`.
 const STATEMENTS: &[Row] = &[
-    (At("}"), &[Pass]),
+    (At("}"), &[]),
     (
         At("let"),
         &[
@@ -322,13 +359,12 @@ const STATEMENTS: &[Row] = &[
             Go(CallArguments),
             Word("("),
             Go(Given),
+            Word(")"),
             Do(EndCall),
-            Go(CallNext),
+            If(";", Statements),
         ],
     ),
 ];
-// The last call may stand without `;`.
-const CALL_NEXT: &[Row] = &[(At(";"), &[Pass, Go(Statements)]), (Else, &[Word("}")])];
 // What has any type, since it never comes to a value.
 const NEVER: &[Row] = &[
     (At("loop"), &[Pass, Word("{"), Word("}")]),
@@ -342,13 +378,11 @@ const NEVER: &[Row] = &[
 const STOPPING: &[Row] = &[(Else, &[Word("!"), Word("("), Word(")")])];
 
 const CALL_ARGUMENTS: &[Row] = &[
-    (At("::"), &[Pass, Word("<"), Go(ArgumentList)]),
+    (At("::"), &[Pass, Word("<"), Go(ArgumentList), Word(">")]),
     (Else, &[]),
 ];
 
-const GIVEN: &[Row] = &[(At(")"), &[Pass]), (Else, &[Go(GivenValue), Go(GivenNext)])];
-
-const GIVEN_NEXT: &[Row] = &[(At(","), &[Pass, Go(Given)]), (Else, &[Word(")")])];
+const GIVEN: &[Row] = &[(At(")"), &[]), (Else, &[Go(GivenValue), If(",", Given)])];
 
 const GIVEN_VALUE: &[Row] = &[
     (At("&"), &[Pass, Go(GivenReference)]),
@@ -401,16 +435,13 @@ fn item_rows(part: Part) -> &'static [Row] {
         Part::StructFields => STRUCT_FIELDS,
         Part::StructBody => STRUCT_BODY,
         Part::TupleFields => TUPLE_FIELDS,
-        Part::TupleFieldsNext => TUPLE_FIELDS_NEXT,
         Part::TupleField => TUPLE_FIELD,
         Part::PublicField => PUBLIC_FIELD,
         Part::PublicParenthesis => PUBLIC_PARENTHESIS,
         Part::Fields => FIELDS,
         Part::FieldVisibility => FIELD_VISIBILITY,
-        Part::FieldsNext => FIELDS_NEXT,
         Part::Variants => VARIANTS,
         Part::VariantFields => VARIANT_FIELDS,
-        Part::VariantsNext => VARIANTS_NEXT,
         other => function_rows(other),
     }
 }
@@ -421,17 +452,14 @@ fn function_rows(part: Part) -> &'static [Row] {
         Part::Function => FUNCTION,
         Part::Signature => SIGNATURE,
         Part::Values => VALUES,
-        Part::ValuesNext => VALUES_NEXT,
         Part::Declared => DECLARED,
         Part::Pattern => PATTERN,
         Part::Body => BODY,
         Part::Statements => STATEMENTS,
         Part::Never => NEVER,
         Part::Stopping => STOPPING,
-        Part::CallNext => CALL_NEXT,
         Part::CallArguments => CALL_ARGUMENTS,
         Part::Given => GIVEN,
-        Part::GivenNext => GIVEN_NEXT,
         Part::GivenValue => GIVEN_VALUE,
         Part::GivenReference => GIVEN_REFERENCE,
         other => bound_rows(other),

@@ -83,9 +83,16 @@ impl<'a> Machine<'a> {
             Step::Name => self.pass_if(matches!(token.kind, Kind::Name), Problem::NoName),
             Step::Number => self.pass_if(matches!(token.kind, Kind::Number), Problem::NoNumber),
             Step::Limit => self.read_limit(token.text),
-            Step::Mark => self.keep_place(),
-            Step::Back => self.go_back(),
+            Step::Mark => {
+                self.mark = self.at;
+                Ok(())
+            }
+            Step::Back => {
+                self.at = self.mark;
+                Ok(())
+            }
             Step::Go(part) => self.choose(part),
+            Step::If(word, part) => self.choose_if(token.text == word.as_bytes(), part),
             Step::Make(making) => reader.make(making, self.last_word()),
             Step::Do(doing) => reader.act(doing, self.last_word()),
             Step::Refuse(problem) => self.pass_if(false, problem),
@@ -98,16 +105,6 @@ impl<'a> Machine<'a> {
             return Err(self.refused(problem));
         }
         self.at = self.at.saturating_add(1);
-        Ok(())
-    }
-
-    fn keep_place(&mut self) -> Result<(), Stop> {
-        self.mark = self.at;
-        Ok(())
-    }
-
-    fn go_back(&mut self) -> Result<(), Stop> {
-        self.at = self.mark;
         Ok(())
     }
 
@@ -135,6 +132,15 @@ impl<'a> Machine<'a> {
             Kind::OpenComment => Stop::Refused(self.at, Problem::OpenComment),
             _ => Stop::Refused(self.at, problem),
         }
+    }
+
+    // Passes the word and takes the steps of the part first, if it is there.
+    fn choose_if(&mut self, is_there: bool, part: Part) -> Result<(), Stop> {
+        if !is_there {
+            return Ok(());
+        }
+        self.at = self.at.saturating_add(1);
+        self.choose(part)
     }
 
     // Takes the steps of the part first.

@@ -43,8 +43,10 @@ impl Open {
 
     /// The type that began last is the one that was whole last.
     pub(crate) fn leave(&mut self) -> Result<(), Stop> {
-        self.end()?;
-        Ok(())
+        match self.starts.pop() {
+            Some(_) => Ok(()),
+            None => Err(Stop::Memory),
+        }
     }
 
     /// The parts from this number on.

@@ -4,7 +4,7 @@ ghost use Rattle.trait_texts.specs.WellFormed.{AreAsked, AreSound, IsRuleOf, IsW
 
 use crate::declarations::Question;
 use crate::draft::Draft;
-use path_kinds::memory::NoMemory;
+use crate::refusal::Stop;
 use path_kinds::path::PathKind;
 use std::alloc::Global;
 use std::marker::Model;
@@ -55,13 +55,8 @@ impl Program {
         (rules, terms, questions)
     }
 
-    /// How many constructors there are.
-    pub(crate) fn constructor_count(&self) -> usize {
-        self.rules.constructors.len()
-    }
-
     /// One more trait, of which nothing is known yet.
-    pub(crate) fn add_trait(&mut self, alloc: Global) -> Result<usize, NoMemory> {
+    pub(crate) fn add_trait(&mut self, alloc: Global) -> Result<usize, Stop> {
         let number = self.rules.traits.len();
         self.rules.traits.push(Trait {
             kind: PathKind::Inductive,
@@ -81,7 +76,7 @@ impl Program {
     }
 
     /// One more constructor, without a rule by fields.
-    pub(crate) fn add_constructor(&mut self, alloc: Global) -> Result<usize, NoMemory> {
+    pub(crate) fn add_constructor(&mut self, alloc: Global) -> Result<usize, Stop> {
         let number = self.rules.constructors.len();
         self.rules.constructors.push(Constructor {
             fields: None,
@@ -91,7 +86,7 @@ impl Program {
     }
 
     /// The rule by fields for types of the shape `head`, which is no parameter.
-    pub(crate) fn set_fields(&mut self, draft: Draft, head: usize) -> Result<(), NoMemory> {
+    pub(crate) fn set_fields(&mut self, draft: Draft, head: usize) -> Result<(), Stop> {
         if let Some(constructor) = draft.outermost(head) {
             let rule = draft.rule(head)?;
             self.put_fields(constructor, rule);
@@ -115,7 +110,7 @@ impl Program {
         draft: Draft,
         head: usize,
         is_positive: bool,
-    ) -> Result<(), NoMemory> {
+    ) -> Result<(), Stop> {
         match draft.outermost(head) {
             Some(constructor) if is_positive => {
                 let rule = draft.rule(head)?;
@@ -132,7 +127,7 @@ impl Program {
 
     /// Types of the shape `head` implement the trait. An auto trait still looks at the fields of other types of their
     /// constructor.
-    pub(crate) fn hold(&mut self, bound: usize, draft: Draft, head: usize) -> Result<(), NoMemory> {
+    pub(crate) fn hold(&mut self, bound: usize, draft: Draft, head: usize) -> Result<(), Stop> {
         match draft.outermost(head) {
             Some(constructor) if self.has_fields(bound, constructor) => {
                 let rule = draft.rule(head)?;
@@ -154,7 +149,7 @@ impl Program {
     }
 
     // An impl for the constructor.
-    fn list(&mut self, constructor: usize, bound: usize, rule: Option<Rule>) -> Result<(), NoMemory>
+    fn list(&mut self, constructor: usize, bound: usize, rule: Option<Rule>) -> Result<(), Stop>
         requires { IfSome rule (IsRuleOf constructor) }
     {
         let Some(found) = self.rules.constructors.get_mut(constructor) else {
@@ -165,7 +160,7 @@ impl Program {
     }
 
     // An impl for any type.
-    fn blanket(&mut self, bound: usize, rule: Rule) -> Result<(), NoMemory>
+    fn blanket(&mut self, bound: usize, rule: Rule) -> Result<(), Stop>
         requires { IsWellFormed rule }
     {
         let Some(found) = self.rules.traits.get_mut(bound) else {
@@ -181,7 +176,7 @@ impl Program {
         alloc: Global,
         shapes: &[Shape],
         arguments: &[usize],
-    ) -> Result<Vec<usize>, NoMemory> {
+    ) -> Result<Vec<usize>, Stop> {
         let mut types = Vec::with_capacity(alloc, shapes.len())?;
         for (place, shape) in shapes.iter().enumerate() {
             let argument = arguments.get(place).copied();
@@ -197,35 +192,31 @@ impl Program {
         shape: Shape,
         types: &[usize],
         argument: Option<usize>,
-    ) -> Result<usize, NoMemory> {
+    ) -> Result<usize, Stop> {
         match shape {
-            Shape::Parameter => argument.ok_or(NoMemory),
-            Shape::Constructor(constructor) => self.terms.constructor(constructor),
+            Shape::Parameter => argument.ok_or(Stop::Memory),
+            Shape::Constructor(constructor) => self.of_none(constructor),
             Shape::Applied(shape, argument) => {
-                let shape = types.get(shape).copied().ok_or(NoMemory)?;
-                let argument = types.get(argument).copied().ok_or(NoMemory)?;
+                let shape = types.get(shape).copied().ok_or(Stop::Memory)?;
+                let argument = types.get(argument).copied().ok_or(Stop::Memory)?;
                 self.applied(shape, argument)
             }
         }
     }
 
     // A type with one argument more.
-    fn applied(&mut self, number: usize, argument: usize) -> Result<usize, NoMemory> {
+    fn applied(&mut self, number: usize, argument: usize) -> Result<usize, Stop> {
         let number = self.terms.applied(number, argument)?;
-        number.ok_or(NoMemory)
+        number.ok_or(Stop::Memory)
     }
 
     /// The type of a constructor without arguments.
-    pub(crate) fn of_none(&mut self, constructor: usize) -> Result<usize, NoMemory> {
-        self.type_of(Shape::Constructor(constructor), &[], None)
+    pub(crate) fn of_none(&mut self, constructor: usize) -> Result<usize, Stop> {
+        Ok(self.terms.constructor(constructor)?)
     }
 
     /// A type of a constructor with one argument.
-    pub(crate) fn of_one(
-        &mut self,
-        constructor: usize,
-        argument: usize,
-    ) -> Result<usize, NoMemory> {
+    pub(crate) fn of_one(&mut self, constructor: usize, argument: usize) -> Result<usize, Stop> {
         let number = self.of_none(constructor)?;
         self.applied(number, argument)
     }
@@ -236,19 +227,19 @@ impl Program {
     }
 
     /// One more question. Its type and its trait have to be there.
-    pub(crate) fn ask(&mut self, question: Question) -> Result<(), NoMemory> {
+    pub(crate) fn ask(&mut self, question: Question) -> Result<(), Stop> {
         if question.subject >= self.terms.len() || question.bound >= self.rules.traits.len() {
-            return Err(NoMemory);
+            return Err(Stop::Memory);
         }
         self.questions.push(question)?;
         Ok(())
     }
 
     /// A question for each clause, with these types for the shapes.
-    pub(crate) fn ask_all(&mut self, clauses: &[Clause], types: &[usize]) -> Result<(), NoMemory> {
+    pub(crate) fn ask_all(&mut self, clauses: &[Clause], types: &[usize]) -> Result<(), Stop> {
         for clause in clauses {
             if let Bound::Trait(bound) = clause.bound {
-                let subject = types.get(clause.shape).copied().ok_or(NoMemory)?;
+                let subject = types.get(clause.shape).copied().ok_or(Stop::Memory)?;
                 self.ask(Question { subject, bound })?;
             }
         }

@@ -173,14 +173,20 @@ impl Reader {
             Doing::BeginItem => self.begin_item(word, Role::Needs),
             Doing::BeginType => self.begin_item(word, Role::Type),
             Doing::BeginBody => self.begin_item(self.item.word, Role::Body),
-            Doing::NameItem => self.name_item(word),
+            Doing::NameItem => {
+                self.item.word = word;
+                Ok(())
+            }
             Doing::Unit => self.set_unit(),
             Doing::EndType => self.end_type_item(),
             Doing::Trait(is_auto, is_coinductive) => {
                 self.declare_trait(word, is_auto, is_coinductive)
             }
             Doing::SetAbove => self.set_above(),
-            Doing::Negate => self.negate(),
+            Doing::Negate => {
+                self.item.is_positive = false;
+                Ok(())
+            }
             Doing::SetTrait => self.set_trait(word),
             Doing::SetHead => self.set_head(),
             Doing::EndImpl => self.end_impl(),
@@ -207,20 +213,10 @@ impl Reader {
         }
     }
 
-    fn name_item(&mut self, word: Word) -> Result<(), Stop> {
-        self.item.word = word;
-        Ok(())
-    }
-
     fn set_unit(&mut self) -> Result<(), Stop> {
         if self.item.parameters.is_empty() {
             self.lexicon.set_unit(self.item.word.name);
         }
-        Ok(())
-    }
-
-    fn negate(&mut self) -> Result<(), Stop> {
-        self.item.is_positive = false;
         Ok(())
     }
 
@@ -243,8 +239,7 @@ impl Reader {
 
     fn add_field(&mut self) -> Result<(), Stop> {
         let shape = self.open.take()?;
-        self.item.draft.ask(shape, Bound::Same)?;
-        Ok(())
+        self.item.draft.ask(shape, Bound::Same)
     }
 
     // The parameters of the item before mean nothing more.
@@ -341,7 +336,6 @@ impl Reader {
         is_auto: bool,
         is_coinductive: bool,
     ) -> Result<(), Stop> {
-        self.begin_item(word, Role::Type)?;
         let number = self.trait_number(word)?;
         self.lexicon.declare_trait(word, number)?;
         let kind = match (is_coinductive, self.as_rustc) {
@@ -367,8 +361,7 @@ impl Reader {
         let head = self.item.own.ok_or(Stop::Memory)?;
         let draft = self.take_draft();
         self.program
-            .implement(self.item.bound, draft, head, self.item.is_positive)?;
-        Ok(())
+            .implement(self.item.bound, draft, head, self.item.is_positive)
     }
 
     // A value that a function takes, or one in its body. The type is known where there is no parameter in it.
@@ -412,8 +405,7 @@ impl Reader {
     // The types of the shapes of the draft, in whose place is an empty one.
     fn take_types(&mut self) -> Result<Vec<usize>, Stop> {
         let draft = self.take_draft();
-        let types = self.program.types_of(self.alloc, draft.shapes(), &[])?;
-        Ok(types)
+        self.program.types_of(self.alloc, draft.shapes(), &[])
     }
 
     // The type of this shape of the draft, in whose place is an empty one.
@@ -456,7 +448,7 @@ impl Reader {
     fn unit_type(&mut self, word: Word) -> Result<usize, Stop> {
         self.lexicon.note_unit(word)?;
         let constructor = self.constructor(Form::Path(word.name))?;
-        Ok(self.program.of_none(constructor)?)
+        self.program.of_none(constructor)
     }
 
     // The value that was given last is a reference to the one that is named.

@@ -83,8 +83,14 @@ impl<'a> Page<'a> {
         Ok(())
     }
 
-    // Types with commas between them, and a text behind them. They come from the last one on.
-    fn lay_out(&mut self, arguments: &[usize], behind: &'a [u8]) -> Result<(), NoMemory> {
+    // Writes a text, and behind it types with commas between them, and another text. The types come from the last one on.
+    fn lay_out(
+        &mut self,
+        before: &[u8],
+        arguments: &[usize],
+        behind: &'a [u8],
+    ) -> Result<(), NoMemory> {
+        self.write(before)?;
         self.later(Piece::Text(behind))?;
         let Some((first, others)) = arguments.split_last() else {
             return Ok(());
@@ -248,8 +254,7 @@ impl<'a> Spelling<'a> {
         if arguments.is_empty() {
             return Ok(());
         }
-        page.write(b"<")?;
-        page.lay_out(arguments, b">")
+        page.lay_out(b"<", arguments, b">")
     }
 
     fn write_constant(
@@ -271,10 +276,9 @@ impl<'a> Spelling<'a> {
         length: usize,
         arguments: &[usize],
     ) -> Result<(), NoMemory> {
-        page.write(b"[")?;
         page.later(Piece::Text(b"]"))?;
         page.later(Piece::Text(self.name(length)))?;
-        page.lay_out(arguments, b"; ")
+        page.lay_out(b"[", arguments, b"; ")
     }
 
     // The result comes first. It is left out where it is `()`.
@@ -287,12 +291,11 @@ impl<'a> Spelling<'a> {
         let Some((last, arguments)) = arguments.split_first() else {
             return Ok(());
         };
-        page.write(b"fn(")?;
         if matches!(self.form_of(terms, *last), Some(Form::Tuple(_))) {
-            return page.lay_out(arguments, b")");
+            return page.lay_out(b"fn(", arguments, b")");
         }
         page.later(Piece::Marked(*last))?;
-        page.lay_out(arguments, b") -> ")
+        page.lay_out(b"fn(", arguments, b") -> ")
     }
 
     // The traits, in the order of their names.
@@ -340,10 +343,10 @@ impl<'a> Spelling<'a> {
             arguments.push(argument)?;
             at = applied;
         }
-        Ok(
-            self.form_of(terms, at)
-                .map(|form| Spread { form, arguments }),
-        )
+        match self.form_of(terms, at) {
+            Some(form) => Ok(Some(Spread { form, arguments })),
+            None => Ok(None),
+        }
     }
 }
 
@@ -358,9 +361,11 @@ fn begin_marks(page: &mut Page<'_>, form: Form, arguments: &[usize]) -> Result<(
         Form::Tuple(1) => (b"(".as_slice(), b",)".as_slice()),
         _ => (b"(".as_slice(), b")".as_slice()),
     };
-    page.write(before)?;
     match arguments {
-        [argument] if behind.is_empty() => page.later(Piece::Marked(*argument)),
-        _ => page.lay_out(arguments, behind),
+        [argument] if behind.is_empty() => {
+            page.write(before)?;
+            page.later(Piece::Marked(*argument))
+        }
+        _ => page.lay_out(before, arguments, behind),
     }
 }

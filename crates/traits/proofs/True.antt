@@ -9,7 +9,8 @@ use Rattle.trait_goals.specs.Known.{IsAsked, Table}
 use Rattle.trait_pages.specs.Asked.{AreGoalsOf}
 use Rattle.trait_rules.proofs.Standing.{stands_in}
 use Rattle.trait_rules.specs.Numbered.{Keeps}
-use Rattle.trait_rules.specs.Terms.{Made, Stands, Term, applied, applied_at, constructor, constructor_at}
+use Rattle.trait_rules.specs.declared.made.Made.{Made}
+use Rattle.trait_rules.specs.Terms.{Stands, Term, applied, applied_at, constructor, constructor_at}
 use Rattle.trait_rules.specs.declared.rules.Rules.{Rules}
 use Rattle.trait_texts.specs.declared.declarations.Question.{Question}
 use Rattle.traits.specs.Right.{AreRight, IsRight}

@@ -4,7 +4,8 @@ use Rattle.delegate_parts.specs.declared.outcome.Outcome.{Outcome}
 use Rattle.delegate_parts.specs.declared.outcome.Outcome.TheVariants.{No, Yes}
 use Rattle.search_context.specs.declared.context.Fault.{Fault}
 use Rattle.trait_goals.specs.Implementing.{Implements}
-use Rattle.trait_rules.specs.Terms.{Made, Stands, Term}
+use Rattle.trait_rules.specs.Terms.{Stands, Term}
+use Rattle.trait_rules.specs.declared.made.Made.{Made}
 use Rattle.trait_rules.specs.declared.rules.Rules.{Rules}
 use Rattle.trait_texts.specs.declared.declarations.Question.{Question}
 
