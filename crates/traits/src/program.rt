@@ -42,7 +42,7 @@ pub(crate) fn ask_declared<'a>(
     alloc: Global,
     declared: Declarations<'a>,
 ) -> Result<Answered<'a>, Stop>
-    ensures { IfOk result (λ answered. AreTrue declared.rules declared.terms declared.questions.items
+    ensures { IfOk result (λ answered. AreTrue declared.entry.rules declared.entry.terms declared.entry.questions.items
         answered.came.items) }
 {
     let Declarations {
