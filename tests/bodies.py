@@ -101,10 +101,12 @@ class Told:
         self.refused = {}
         self.is_open = {}
         self.is_lost = set()
-        for line in said.split("\n"):
+        lines = said.split("\n")
+        for line, after in zip(lines, [*lines[1:], ""]):
             answer, goal = ANSWER.match(line), OPEN.match(line)
             if answer:
-                self.note(answer[1], answer[2] or "an answer", answer[3])
+                # What is long goes on in the next line.
+                self.note(answer[1], answer[2] or "an answer", f"{answer[3]} {after.strip() if after.startswith('  ') else ''}")
             elif goal:
                 path = f"src/{goal[1]}.rt"
                 place = sum(len(it) + 1 for it in texts[path].split("\n")[: int(goal[2]) - 1])
