@@ -5,18 +5,18 @@ use crate::spelling::Form;
 use crate::step::Doing::*;
 use crate::step::Making::*;
 use crate::step::Part::*;
+use crate::step::Row;
 use crate::step::Step::*;
 use crate::step::When::*;
-use crate::step::{Part, Row};
 
 // Parameters, where-clauses and bounds.
 
-const PARAMETERS: &[Row] = &[
+pub(crate) const PARAMETERS: &[Row] = &[
     (At("<"), &[Pass, Go(ParameterList), Word(">")]),
     (Else, &[]),
 ];
 
-const PARAMETER_LIST: &[Row] = &[
+pub(crate) const PARAMETER_LIST: &[Row] = &[
     (At(">"), &[]),
     (
         AtLifetime,
@@ -33,14 +33,14 @@ const PARAMETER_LIST: &[Row] = &[
     ),
 ];
 
-const PARAMETER_BOUNDS: &[Row] = &[
+pub(crate) const PARAMETER_BOUNDS: &[Row] = &[
     (At(":"), &[Pass, Go(Bounds), Do(EndBounds)]),
     (Else, &[Do(EndBounds)]),
 ];
 
-const OUTLIVES: &[Row] = &[(AtLifetime, &[Pass, If("+", Outlives)]), (Else, &[])];
+pub(crate) const OUTLIVES: &[Row] = &[(AtLifetime, &[Pass, If("+", Outlives)]), (Else, &[])];
 
-const WHERE_LIST: &[Row] = &[
+pub(crate) const WHERE_LIST: &[Row] = &[
     (At("{"), &[]),
     (At(";"), &[]),
     (AtEnd, &[]),
@@ -62,7 +62,7 @@ const WHERE_LIST: &[Row] = &[
 ];
 
 // Bounds of parameters, of types in where-clauses and of traits. There may be none, and `+` may end them.
-const BOUNDS: &[Row] = &[
+pub(crate) const BOUNDS: &[Row] = &[
     (AtLifetime, &[Pass, If("+", Bounds)]),
     (At("?"), &[Pass, Word("Sized"), Do(Relax), If("+", Bounds)]),
     (AtName, &[Pass, Make(Bound), If("+", Bounds)]),
@@ -70,19 +70,19 @@ const BOUNDS: &[Row] = &[
 ];
 
 // What `dyn` types name, several or one.
-const NAMED: &[Row] = &[
+pub(crate) const NAMED: &[Row] = &[
     (AtLifetime, &[Pass, If("+", Named)]),
     (AtName, &[Pass, Make(Bound), If("+", Named)]),
     (Else, &[]),
 ];
 
-const ONE_NAMED: &[Row] = &[
+pub(crate) const ONE_NAMED: &[Row] = &[
     (AtLifetime, &[Pass]),
     (AtName, &[Pass, Make(Bound)]),
     (Else, &[]),
 ];
 // What questions ask.
-const ASKED: &[Row] = &[
+pub(crate) const ASKED: &[Row] = &[
     (AtLifetime, &[Pass, If("+", Asked)]),
     (AtName, &[Pass, Make(Bound), If("+", Asked)]),
     (Else, &[Refuse(NoTrait)]),
@@ -90,56 +90,61 @@ const ASKED: &[Row] = &[
 
 // Types. Behind a mark a type is narrow: it takes no `+`.
 
-const TYPE: &[Row] = &[
+pub(crate) const TYPE: &[Row] = &[
+    (AtName, &[Pass, Go(Arguments)]),
     (At("dyn"), &[Pass, Go(Named), Make(Dyn)]),
     (Else, &[Go(PlainType)]),
 ];
 
-const NARROW_TYPE: &[Row] = &[
+pub(crate) const NARROW_TYPE: &[Row] = &[
     (At("dyn"), &[Pass, Go(OneNamed), Make(Dyn)]),
     (Else, &[Go(PlainType)]),
 ];
 
-const PLAIN_TYPE: &[Row] = &[
-    (AtName, &[Pass, Go(Path)]),
+pub(crate) const PLAIN_TYPE: &[Row] = &[
+    (AtName, &[Pass, Go(Arguments)]),
     (At("("), &[Pass, Make(Begin), Go(Parentheses)]),
     (At("["), &[Pass, Make(Begin), Go(Type), Go(Brackets)]),
     (At("&"), &[Pass, Make(Begin), Go(Reference)]),
     (At("*"), &[Pass, Make(Begin), Go(Pointer)]),
-    (At("!"), &[Pass, Make(Begin), Make(EndPath)]),
+    (At("!"), &[Pass, Make(Plain)]),
     (At("fn"), &[Pass, Go(FunctionType)]),
     (At("Self"), &[Pass, Make(Own)]),
     (Else, &[Refuse(NoType)]),
 ];
+
 // A type in parentheses, if no comma follows it, and else a tuple.
-const PARENTHESES: &[Row] = &[
+pub(crate) const PARENTHESES: &[Row] = &[
     (At(")"), &[Pass, Make(EndTuple)]),
     (Else, &[Go(Type), Go(ParenthesesNext)]),
 ];
 
-const PARENTHESES_NEXT: &[Row] = &[
+pub(crate) const PARENTHESES_NEXT: &[Row] = &[
     (At(")"), &[Pass, Make(EndParentheses)]),
     (Else, &[Word(","), Go(Tuple)]),
 ];
 
-const TUPLE: &[Row] = &[
+pub(crate) const TUPLE: &[Row] = &[
     (At(")"), &[Pass, Make(EndTuple)]),
     (Else, &[Go(Type), Go(TupleNext)]),
 ];
 
-const TUPLE_NEXT: &[Row] = &[
+pub(crate) const TUPLE_NEXT: &[Row] = &[
     (At(","), &[Pass, Go(Tuple)]),
     (Else, &[Word(")"), Make(EndTuple)]),
 ];
 
-const BRACKETS: &[Row] = &[
+pub(crate) const BRACKETS: &[Row] = &[
     (At("]"), &[Pass, Make(End(Form::Slice))]),
     (Else, &[Word(";"), Number, Make(EndArray), Word("]")]),
 ];
 
-const REFERENCE: &[Row] = &[(AtLifetime, &[Pass, Go(Referent)]), (Else, &[Go(Referent)])];
+pub(crate) const REFERENCE: &[Row] = &[
+    (AtLifetime, &[Pass, Go(Referent)]),
+    (Else, &[Go(Referent)]),
+];
 
-const REFERENT: &[Row] = &[
+pub(crate) const REFERENT: &[Row] = &[
     (
         At("mut"),
         &[Pass, Go(NarrowType), Make(End(Form::MutableReference))],
@@ -147,7 +152,7 @@ const REFERENT: &[Row] = &[
     (Else, &[Go(NarrowType), Make(End(Form::Reference))]),
 ];
 
-const POINTER: &[Row] = &[
+pub(crate) const POINTER: &[Row] = &[
     (
         At("const"),
         &[Pass, Go(NarrowType), Make(End(Form::ConstantPointer))],
@@ -158,75 +163,41 @@ const POINTER: &[Row] = &[
     ),
 ];
 
-const FUNCTION_TYPE: &[Row] = &[(Else, &[Word("("), Make(Begin), Go(FunctionParts)])];
+pub(crate) const FUNCTION_TYPE: &[Row] = &[(Else, &[Word("("), Make(Begin), Go(FunctionParts)])];
 
-const FUNCTION_PARTS: &[Row] = &[
+pub(crate) const FUNCTION_PARTS: &[Row] = &[
     (At(")"), &[Pass, Go(FunctionResult)]),
     (Else, &[Go(Type), Go(FunctionNext)]),
 ];
 
-const FUNCTION_NEXT: &[Row] = &[
+pub(crate) const FUNCTION_NEXT: &[Row] = &[
     (At(","), &[Pass, Go(FunctionParts)]),
     (Else, &[Word(")"), Go(FunctionResult)]),
 ];
 
-const FUNCTION_RESULT: &[Row] = &[
+pub(crate) const FUNCTION_RESULT: &[Row] = &[
     (At("->"), &[Pass, Go(NarrowType), Make(EndFunction)]),
     (Else, &[Make(Begin), Make(EndTuple), Make(EndFunction)]),
 ];
 
-const PATH: &[Row] = &[(Else, &[Make(Begin), Go(Arguments)])];
-
-// In questions, `f::T` is the parameter of a function.
-const ARGUMENTS: &[Row] = &[
-    (At("<"), &[Pass, Go(ArgumentList), Word(">"), Make(EndPath)]),
-    (At("::"), &[Pass, Name, Make(Constant)]),
-    (Else, &[Make(EndPath)]),
+// What follows a name that begins a type. In questions, `f::T` is the parameter of a function.
+pub(crate) const ARGUMENTS: &[Row] = &[
+    (
+        At("<"),
+        &[
+            Make(Begin),
+            Pass,
+            Go(ArgumentList),
+            Word(">"),
+            Make(EndPath),
+        ],
+    ),
+    (At("::"), &[Make(Begin), Pass, Name, Make(Constant)]),
+    (Else, &[Make(Plain)]),
 ];
 
-const ARGUMENT_LIST: &[Row] = &[
+pub(crate) const ARGUMENT_LIST: &[Row] = &[
     (At(">"), &[]),
     (AtLifetime, &[Pass, If(",", ArgumentList)]),
     (Else, &[Go(Type), If(",", ArgumentList)]),
 ];
-
-/// What the part may be, if it is one of these.
-pub(crate) fn bound_rows(part: Part) -> &'static [Row] {
-    match part {
-        Part::Parameters => PARAMETERS,
-        Part::ParameterList => PARAMETER_LIST,
-        Part::ParameterBounds => PARAMETER_BOUNDS,
-        Part::Outlives => OUTLIVES,
-        Part::WhereList => WHERE_LIST,
-        Part::Bounds => BOUNDS,
-        Part::Named => NAMED,
-        Part::OneNamed => ONE_NAMED,
-        Part::Asked => ASKED,
-        other => type_rows(other),
-    }
-}
-
-// The same of types.
-fn type_rows(part: Part) -> &'static [Row] {
-    match part {
-        Part::Type => TYPE,
-        Part::NarrowType => NARROW_TYPE,
-        Part::PlainType => PLAIN_TYPE,
-        Part::Parentheses => PARENTHESES,
-        Part::ParenthesesNext => PARENTHESES_NEXT,
-        Part::Tuple => TUPLE,
-        Part::TupleNext => TUPLE_NEXT,
-        Part::Brackets => BRACKETS,
-        Part::Reference => REFERENCE,
-        Part::Referent => REFERENT,
-        Part::Pointer => POINTER,
-        Part::FunctionType => FUNCTION_TYPE,
-        Part::FunctionParts => FUNCTION_PARTS,
-        Part::FunctionNext => FUNCTION_NEXT,
-        Part::FunctionResult => FUNCTION_RESULT,
-        Part::Path => PATH,
-        Part::Arguments => ARGUMENTS,
-        Part::ArgumentList => ARGUMENT_LIST,
-        _ => &[],
-    }
-}

@@ -25,6 +25,8 @@ pub(crate) enum Parameter {
 pub(crate) struct Meaning {
     /// A type of this name takes so many arguments.
     pub(crate) arguments: Option<usize>,
+    /// The constructor of the type of this name, once it is used.
+    pub(crate) constructor: Option<usize>,
     /// The name of the type is its value, too.
     pub(crate) is_unit: bool,
     /// The number of the trait of this name.
@@ -39,6 +41,7 @@ pub(crate) struct Meaning {
 
 const NOTHING: Meaning = Meaning {
     arguments: None,
+    constructor: None,
     is_unit: false,
     bound: None,
     function: None,
@@ -48,6 +51,7 @@ const NOTHING: Meaning = Meaning {
 
 const BUILT_IN: Meaning = Meaning {
     arguments: Some(0),
+    constructor: None,
     is_unit: false,
     bound: None,
     function: None,
@@ -213,6 +217,13 @@ impl Lexicon {
     /// The word names a type that has so many arguments there.
     pub(crate) fn note_use(&mut self, word: Word, arguments: usize) -> Result<(), Stop> {
         push(&mut self.uses, Use { word, arguments })
+    }
+
+    /// The type of this name has this constructor.
+    pub(crate) fn set_constructor(&mut self, name: usize, constructor: usize) {
+        if let Some(known) = self.meanings.get_mut(name) {
+            known.constructor = Some(constructor);
+        }
     }
 
     /// The name of the type is its value, too.

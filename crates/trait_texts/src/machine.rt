@@ -5,7 +5,7 @@ use crate::lexicon::Word;
 use crate::reader::Reader;
 use crate::refusal::{Problem, Stop};
 use crate::step::{Part, Step};
-use crate::token::{Kind, Place, Token};
+use crate::token::{Kind, Token};
 use std::alloc::Global;
 
 /// What goals a question may nest if no text says so.
@@ -13,14 +13,6 @@ const DEPTH: usize = 128;
 
 /// The most digits that a limit has.
 const DIGITS: usize = 9;
-
-// It stands behind the last word.
-const NO_TOKEN: Token<'static> = Token {
-    text: b"",
-    place: Place { file: 0, line: 0 },
-    kind: Kind::End,
-    name: 0,
-};
 
 /// A place among words, and the steps to take from there.
 #[derive(Drop)]
@@ -74,15 +66,14 @@ impl<'a> Machine<'a> {
     }
 
     fn take(&mut self, reader: &mut Reader, step: Step) -> Result<(), Stop> {
-        let token = self.token();
         match step {
             Step::Pass => self.pass_if(true, Problem::NoItem),
             Step::Word(word) => {
-                self.pass_if(token.text == word.as_bytes(), Problem::Expected(word))
+                self.pass_if(self.text() == word.as_bytes(), Problem::Expected(word))
             }
-            Step::Name => self.pass_if(matches!(token.kind, Kind::Name), Problem::NoName),
-            Step::Number => self.pass_if(matches!(token.kind, Kind::Number), Problem::NoNumber),
-            Step::Limit => self.read_limit(token.text),
+            Step::Name => self.pass_if(matches!(self.kind(), Kind::Name), Problem::NoName),
+            Step::Number => self.pass_if(matches!(self.kind(), Kind::Number), Problem::NoNumber),
+            Step::Limit => self.read_limit(),
             Step::Mark => {
                 self.mark = self.at;
                 Ok(())
@@ -92,7 +83,7 @@ impl<'a> Machine<'a> {
                 Ok(())
             }
             Step::Go(part) => self.choose(part),
-            Step::If(word, part) => self.choose_if(token.text == word.as_bytes(), part),
+            Step::If(word, part) => self.choose_if(self.text() == word.as_bytes(), part),
             Step::Make(making) => reader.make(making, self.last_word()),
             Step::Do(doing) => reader.act(doing, self.last_word()),
             Step::Refuse(problem) => self.pass_if(false, problem),
@@ -108,11 +99,19 @@ impl<'a> Machine<'a> {
         Ok(())
     }
 
-    // The word that stands here.
-    fn token(&self) -> Token<'a> {
+    // The text of the word that stands here.
+    fn text(&self) -> &'a [u8] {
         match self.tokens.get(self.at) {
-            Some(token) => *token,
-            None => NO_TOKEN,
+            Some(token) => token.text,
+            None => b"",
+        }
+    }
+
+    // What the word is that stands here. Behind the last one is an end.
+    fn kind(&self) -> Kind {
+        match self.tokens.get(self.at) {
+            Some(token) => token.kind,
+            None => Kind::End,
         }
     }
 
@@ -128,7 +127,7 @@ impl<'a> Machine<'a> {
 
     // What is wrong with the word.
     fn refused(&self, problem: Problem) -> Stop {
-        match self.token().kind {
+        match self.kind() {
             Kind::OpenComment => Stop::Refused(self.at, Problem::OpenComment),
             _ => Stop::Refused(self.at, problem),
         }
@@ -145,9 +144,10 @@ impl<'a> Machine<'a> {
 
     // Takes the steps of the part first.
     fn choose(&mut self, part: Part) -> Result<(), Stop> {
-        let token = self.token();
+        let text = self.text();
+        let kind = self.kind();
         for (when, steps) in rows_of(part) {
-            if when.fits(token) {
+            if when.fits(text, kind) {
                 if !self.steps.is_empty() {
                     self.later.push(self.steps)?;
                 }
@@ -158,8 +158,8 @@ impl<'a> Machine<'a> {
         Err(self.refused(Problem::NoItem))
     }
 
-    fn read_limit(&mut self, quoted: &[u8]) -> Result<(), Stop> {
-        let limit = limit_of(quoted);
+    fn read_limit(&mut self) -> Result<(), Stop> {
+        let limit = limit_of(self.text());
         self.depth = limit.unwrap_or(DEPTH);
         self.pass_if(limit.is_some(), Problem::Limit)
     }

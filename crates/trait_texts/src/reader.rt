@@ -52,6 +52,7 @@ impl Reader {
     /// Makes a part of a type, or of bounds.
     pub(crate) fn make(&mut self, making: Making, word: Word) -> Result<(), Stop> {
         match making {
+            Making::Plain => self.put_plain(word),
             Making::Begin => self.open.begin(word),
             Making::EndPath => self.end_path(),
             Making::Constant => self.name_constant(word),
@@ -109,6 +110,15 @@ impl Reader {
         self.open.put(shape)
     }
 
+    // The type that a name has to which no arguments are given.
+    fn put_plain(&mut self, word: Word) -> Result<(), Stop> {
+        if let Some(parameter) = self.lexicon.meaning(word.name).parameter {
+            return self.put_parameter(parameter);
+        }
+        let constructor = self.named(word, 0)?;
+        self.put_parameter(Parameter::Constant(constructor))
+    }
+
     // A parameter takes no arguments.
     fn end_path(&mut self) -> Result<(), Stop> {
         let start = self.open.end()?;
@@ -116,15 +126,27 @@ impl Reader {
         match self.lexicon.meaning(start.word.name).parameter {
             Some(_) if count > 0 => Err(Stop::Refused(start.word.place, Problem::Arguments(0))),
             Some(parameter) => self.put_parameter(parameter),
-            None => self.end_named(start, count),
+            None => {
+                let constructor = self.named(start.word, count)?;
+                self.end_parts(constructor, start.first)
+            }
         }
     }
 
-    // The type that the word names, with so many arguments.
-    fn end_named(&mut self, start: Start, count: usize) -> Result<(), Stop> {
-        self.lexicon.note_use(start.word, count)?;
-        let constructor = self.constructor(Form::Path(start.word.name))?;
-        self.end_parts(constructor, start.first)
+    // The constructor of the type that the word names, which has so many arguments there.
+    fn named(&mut self, word: Word, count: usize) -> Result<usize, Stop> {
+        self.lexicon.note_use(word, count)?;
+        self.path(word.name)
+    }
+
+    // The constructor of the type of this name.
+    fn path(&mut self, name: usize) -> Result<usize, Stop> {
+        if let Some(constructor) = self.lexicon.meaning(name).constructor {
+            return Ok(constructor);
+        }
+        let constructor = self.constructor(Form::Path(name))?;
+        self.lexicon.set_constructor(name, constructor);
+        Ok(constructor)
     }
 
     fn put_parameter(&mut self, parameter: Parameter) -> Result<(), Stop> {
@@ -325,7 +347,7 @@ impl Reader {
         let word = self.item.word;
         let count = self.item.parameters.len();
         self.lexicon.declare_type(word, count)?;
-        let constructor = self.constructor(Form::Path(word.name))?;
+        let constructor = self.path(word.name)?;
         let draft = self.take_draft();
         finish_fields(&mut self.program, constructor, count, draft)
     }
@@ -437,7 +459,7 @@ impl Reader {
             Some(number) => number,
             None => self.unit_type(word)?,
         };
-        let never = self.constructor(Form::Path(NEVER))?;
+        let never = self.path(NEVER)?;
         if self.program.made(number) == Some(Made::Constructor(never)) {
             return Err(Stop::Refused(word.place, Problem::NeverValue));
         }
@@ -447,7 +469,7 @@ impl Reader {
     // The type of the value which has its name.
     fn unit_type(&mut self, word: Word) -> Result<usize, Stop> {
         self.lexicon.note_unit(word)?;
-        let constructor = self.constructor(Form::Path(word.name))?;
+        let constructor = self.path(word.name)?;
         self.program.of_none(constructor)
     }
 

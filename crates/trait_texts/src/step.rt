@@ -2,13 +2,12 @@
 
 use crate::refusal::Problem;
 use crate::spelling::Form;
-use crate::token::{Kind, Token};
+use crate::token::Kind;
 
 /// A part of a text. Of a list it is what may follow, and so is a part whose name ends in `Next`.
 #[derive(Clone, Copy)]
 pub(crate) enum Part {
     Items,
-    Question,
     Asking,
     AfterAuto,
     AfterFn,
@@ -35,7 +34,6 @@ pub(crate) enum Part {
     StructFields,
     StructBody,
     TupleFields,
-    TupleField,
     PublicField,
     PublicParenthesis,
     Fields,
@@ -79,7 +77,6 @@ pub(crate) enum Part {
     FunctionParts,
     FunctionNext,
     FunctionResult,
-    Path,
     Arguments,
     ArgumentList,
 }
@@ -87,8 +84,11 @@ pub(crate) enum Part {
 /// What is made of the words of a type or of bounds. The word that is meant is the one that was passed last.
 #[derive(Clone, Copy)]
 pub(crate) enum Making {
+    /// The word is a type's name, without arguments.
+    Plain,
     /// A type begins: one of the word's name, or of another form.
     Begin,
+    /// A type ends that is a name with arguments.
     EndPath,
     /// The word names the parameter of the function with whose name the type began.
     Constant,
@@ -188,13 +188,13 @@ pub(crate) enum When {
 }
 
 impl When {
-    /// Whether this word is one before which the part may be that.
-    pub(crate) fn fits(self, token: Token<'_>) -> bool {
+    /// Whether a word of this text and kind is one before which the part may be that.
+    pub(crate) fn fits(self, text: &[u8], kind: Kind) -> bool {
         match self {
-            When::At(word) => token.text == word.as_bytes(),
-            When::AtName => matches!(token.kind, Kind::Name),
-            When::AtLifetime => matches!(token.kind, Kind::Lifetime),
-            When::AtEnd => matches!(token.kind, Kind::End),
+            When::At(word) => text == word.as_bytes(),
+            When::AtName => matches!(kind, Kind::Name),
+            When::AtLifetime => matches!(kind, Kind::Lifetime),
+            When::AtEnd => matches!(kind, Kind::End),
             When::Else => true,
         }
     }

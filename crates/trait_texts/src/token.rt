@@ -74,7 +74,9 @@ pub(crate) fn add_words<'a>(
             break;
         };
         add_word(names, tokens, piece, word, place)?;
-        place.line = line_behind(word, place.line);
+        if let Kind::Blank = piece.kind {
+            place.line = line_behind(word, place.line);
+        }
         if behind.is_empty() || matches!(piece.kind, Kind::OpenComment) {
             break;
         }
