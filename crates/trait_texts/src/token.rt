@@ -73,51 +73,38 @@ pub(crate) fn add_words<'a>(
         let Some((word, behind)) = rest.split_at_checked(piece.length) else {
             break;
         };
-        add_word(names, tokens, piece, word, place)?;
-        if let Kind::Blank = piece.kind {
-            place.line = line_behind(word, place.line);
+        match piece.kind {
+            Kind::Blank => place.line = line_behind(word, place.line),
+            kind => add_word(names, tokens, kind, word, place)?,
         }
         if behind.is_empty() || matches!(piece.kind, Kind::OpenComment) {
             break;
         }
         rest = behind;
     }
-    add_word(
-        names,
-        tokens,
-        Piece {
-            kind: Kind::End,
-            length: 0,
-        },
-        b"",
-        place,
-    )
+    add_word(names, tokens, Kind::End, b"", place)
 }
 
-// Adds a word, if it is one. A name that is a keyword is a mark.
+// Adds a word. A name that is a keyword is a mark.
 fn add_word<'a>(
     names: &mut Names<'a>,
     tokens: &mut Vec<Token<'a>>,
-    piece: Piece,
+    kind: Kind,
     text: &'a [u8],
     place: Place,
 ) -> Result<(), Stop> {
-    let mut kind = piece.kind;
-    let mut name = NEVER;
-    match kind {
-        Kind::Blank => return Ok(()),
-        Kind::Name | Kind::Number => name = names.number(text)?,
-        _ => {}
-    }
-    if matches!(kind, Kind::Name) && Names::is_keyword(name) {
-        kind = Kind::Mark;
-    }
-    let token = Token {
+    let mut token = Token {
         text,
         place,
         kind,
-        name,
+        name: NEVER,
     };
+    if let Kind::Name | Kind::Number = kind {
+        token.name = names.number(text)?;
+        if Names::is_keyword(token.name) {
+            token.kind = Kind::Mark;
+        }
+    }
     push(tokens, token)
 }
 
@@ -134,25 +121,37 @@ fn line_behind(text: &[u8], line: usize) -> usize {
 
 // What the text begins with.
 fn first_piece(rest: &[u8]) -> Piece {
-    let (kind, length) = match rest {
-        [] => (Kind::Blank, 0),
+    let Some((first, behind)) = rest.split_first() else {
+        return Piece {
+            kind: Kind::Blank,
+            length: 0,
+        };
+    };
+    let (kind, length) = match *first {
+        b'a'..=b'z' | b'A'..=b'Z' | b'_' => (Kind::Name, 1 + run_length(behind, Run::Name)),
+        b' ' | b'\n' | b'\t' | b'\r' | 11 | 12 => (Kind::Blank, 1 + run_length(behind, Run::Blank)),
+        b'0'..=b'9' => (Kind::Number, 1 + run_length(behind, Run::Name)),
+        b'/' => slash(rest),
+        b':' if behind.starts_with(b":") => (Kind::Mark, 2),
+        b'-' if behind.starts_with(b">") => (Kind::Mark, 2),
+        b'\'' if begins_name(behind) => (Kind::Lifetime, 1 + run_length(behind, Run::Name)),
+        b'"' => quoted(behind),
+        128.. => (Kind::Mark, 1 + run_length(behind, Run::Foreign)),
+        _ => (Kind::Mark, 1),
+    };
+    Piece { kind, length }
+}
+
+// A comment, or a mark.
+fn slash(rest: &[u8]) -> (Kind, usize) {
+    match rest {
         [b'/', b'/', ..] => (Kind::Blank, run_length(rest, Run::Line)),
         [b'/', b'*', ..] => match comment_length(rest) {
             Some(length) => (Kind::Blank, length),
             None => (Kind::OpenComment, 2),
         },
-        [b':', b':', ..] | [b'-', b'>', ..] => (Kind::Mark, 2),
-        [b'\'', name @ ..] if begins_name(name) => {
-            (Kind::Lifetime, 1 + run_length(name, Run::Name))
-        }
-        [b'"', within @ ..] => quoted(within),
-        [byte, ..] if byte.is_ascii_digit() => (Kind::Number, run_length(rest, Run::Name)),
-        [byte, ..] if goes_on(Run::Name, *byte) => (Kind::Name, run_length(rest, Run::Name)),
-        [byte, ..] if goes_on(Run::Blank, *byte) => (Kind::Blank, run_length(rest, Run::Blank)),
-        [byte, ..] if *byte >= 128 => (Kind::Mark, run_length(rest, Run::Foreign)),
         _ => (Kind::Mark, 1),
-    };
-    Piece { kind, length }
+    }
 }
 
 fn begins_name(rest: &[u8]) -> bool {
