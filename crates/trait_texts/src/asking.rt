@@ -7,6 +7,7 @@ use crate::lexicon::{Lexicon, Word};
 use crate::program::Program;
 use crate::refusal::{Problem, Stop, push};
 use std::alloc::Global;
+use std::marker::Model;
 
 // A question, or a call of a function.
 #[derive(Drop)]
@@ -20,6 +21,13 @@ enum Pending {
 pub(crate) struct Asking {
     functions: Vec<Function>,
     pending: Vec<Pending>,
+}
+
+// Nothing is promised of what is in it.
+impl Model for Asking {
+    ghost Value = { Unit {0} };
+
+    ghost view = { λ _. tt };
 }
 
 impl Asking {

@@ -7,6 +7,7 @@ use crate::program::Program;
 use crate::refusal::{Problem, Stop, push};
 use crate::spelling::{Form, Spelling};
 use std::alloc::Global;
+use std::marker::Model;
 use std::mem;
 use trait_rules::{Bound, Made, Numbered, Shape};
 
@@ -23,6 +24,13 @@ pub(crate) struct Forms {
     named: Vec<(usize, usize)>,
     // The constructors of types that may have no size.
     unsized_ones: Vec<usize>,
+}
+
+// Nothing is promised of what is in it.
+impl Model for Forms {
+    ghost Value = { Unit {0} };
+
+    ghost view = { λ _. tt };
 }
 
 /// Types that implement traits, whatever impls say: those of the shape `head` of the draft.

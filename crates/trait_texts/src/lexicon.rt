@@ -3,6 +3,7 @@
 use crate::names::PRIMITIVES;
 use crate::refusal::{Problem, Stop, push};
 use std::alloc::Global;
+use std::marker::Model;
 
 /// A word, by the number of its name and by its place.
 #[derive(Clone, Copy)]
@@ -86,6 +87,13 @@ pub(crate) struct Lexicon {
     units: Vec<Word>,
     // The names that mean parameters and values of the item.
     locals: Vec<usize>,
+}
+
+// Nothing is promised of what is in it.
+impl Model for Lexicon {
+    ghost Value = { Unit {0} };
+
+    ghost view = { λ _. tt };
 }
 
 impl Lexicon {

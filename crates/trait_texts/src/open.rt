@@ -3,6 +3,7 @@
 use crate::lexicon::Word;
 use crate::refusal::{Stop, push};
 use std::alloc::Global;
+use std::marker::Model;
 use std::mem;
 
 /// A type that has begun: the word with which it did, and the number of its first part.
@@ -18,6 +19,13 @@ pub(crate) struct Open {
     starts: Vec<Start>,
     parts: Vec<usize>,
     bounds: Vec<usize>,
+}
+
+// Nothing is promised of what is in it.
+impl Model for Open {
+    ghost Value = { Unit {0} };
+
+    ghost view = { λ _. tt };
 }
 
 impl Open {
