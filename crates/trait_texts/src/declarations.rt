@@ -88,7 +88,7 @@ fn read_named<'a>(
     reader: &mut Reader,
     tokens: &[Token<'_>],
     count: usize,
-    names: Names<'a>,
+    names: Vec<&'a [u8]>,
 ) -> Result<Declarations<'a>, Stop>
     ensures rules { IfOk result (λ told. AreSound told.rules) }
     ensures questions { IfOk result (λ told.
@@ -103,10 +103,10 @@ fn split_texts<'a>(
     alloc: Global,
     sources: &[Source<'a>],
     tokens: &mut Vec<Token<'a>>,
-) -> Result<Names<'a>, Stop> {
+) -> Result<Vec<&'a [u8]>, Stop> {
     let mut names = Names::new(alloc)?;
     add_texts(&mut names, tokens, sources)?;
-    Ok(names)
+    Ok(names.into_texts())
 }
 
 fn add_texts<'a>(

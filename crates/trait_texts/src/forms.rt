@@ -2,7 +2,7 @@
 
 use crate::draft::Draft;
 use crate::lexicon::{Lexicon, Word};
-use crate::names::{Names, PRIMITIVES};
+use crate::names::PRIMITIVES;
 use crate::program::Program;
 use crate::refusal::{Problem, Stop, push};
 use crate::spelling::{Form, Spelling};
@@ -168,7 +168,7 @@ impl Forms {
     pub(crate) fn spelling<'a>(
         &mut self,
         alloc: Global,
-        names: Names<'a>,
+        names: Vec<&'a [u8]>,
         traits: Vec<usize>,
     ) -> Spelling<'a> {
         Spelling {

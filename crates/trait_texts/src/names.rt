@@ -1,8 +1,8 @@
 //! Names and their numbers.
 
-use crate::refusal::Stop;
-use indexmap::IndexSet;
+use crate::refusal::{Stop, push};
 use std::alloc::Global;
+use std::collections::HashMap;
 
 /// The types that are built in and have a name.
 pub(crate) const PRIMITIVES: &[&[u8]] = &[
@@ -73,14 +73,16 @@ const KEYWORDS: &[&[u8]] = &[
 /// Names, each with a number: those of the primitive types come first, and then keywords, and `Sized`.
 #[derive(Drop)]
 pub(crate) struct Names<'a> {
-    texts: IndexSet<&'a [u8]>,
+    texts: Vec<&'a [u8]>,
+    numbers: HashMap<&'a [u8], usize>,
 }
 
 impl<'a> Names<'a> {
     /// The names of primitive types, and keywords.
     pub(crate) fn new(alloc: Global) -> Result<Names<'a>, Stop> {
         let mut names = Names {
-            texts: IndexSet::new(alloc),
+            texts: Vec::new(alloc),
+            numbers: HashMap::new(alloc),
         };
         names.enter_all()?;
         Ok(names)
@@ -104,24 +106,25 @@ impl<'a> Names<'a> {
         Ok(())
     }
 
-    /// The number of a name.
+    /// The number of a name, which is the next one where the name is new.
     pub(crate) fn number(&mut self, name: &'a [u8]) -> Result<usize, Stop> {
-        let (number, _) = self.texts.insert_full(name)?;
+        let count = self.texts.len();
+        let number = *self.numbers.entry(name)?.or_insert(count);
+        if number == count {
+            push(&mut self.texts, name)?;
+        }
         Ok(number)
-    }
-
-    /// How many names there are.
-    pub(crate) fn len(&self) -> usize {
-        self.texts.len()
-    }
-
-    /// The text of the name of this number.
-    pub(crate) fn text(&self, number: usize) -> &'a [u8] {
-        self.texts.get_index(number).copied().unwrap_or(b"")
     }
 
     /// Whether the name of this number is a keyword.
     pub(crate) fn is_keyword(number: usize) -> bool {
         number >= PRIMITIVES.len() && number < PRIMITIVES.len() + KEYWORDS.len()
+    }
+
+    /// The texts of all names, by their numbers.
+    pub(crate) fn into_texts(self) -> Vec<&'a [u8]> {
+        let Names { texts, numbers } = self;
+        drop(numbers);
+        texts
     }
 }

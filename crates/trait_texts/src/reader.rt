@@ -523,7 +523,7 @@ impl Reader {
     /// All that was read, with these names.
     pub(crate) fn told<'a>(
         &mut self,
-        names: Names<'a>,
+        names: Vec<&'a [u8]>,
         depth: usize,
     ) -> Result<Declarations<'a>, Stop>
         ensures rules { IfOk result (λ told. AreSound told.rules) }

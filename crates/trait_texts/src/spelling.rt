@@ -1,6 +1,5 @@
 //! How types and traits are written.
 
-use crate::names::Names;
 use path_kinds::memory::NoMemory;
 use std::alloc::Global;
 use trait_rules::{Key, Made, Numbered, Terms};
@@ -36,7 +35,8 @@ impl Key for Form {
 /// The names of types and traits.
 #[derive(Drop)]
 pub struct Spelling<'a> {
-    pub(crate) names: Names<'a>,
+    /// The names by their numbers.
+    pub(crate) names: Vec<&'a [u8]>,
     /// The forms of the constructors.
     pub(crate) forms: Numbered<Form>,
     /// Sets of traits: a trait, or a set with one more.
@@ -106,7 +106,12 @@ impl<'a> Spelling<'a> {
     /// The name of the trait of this number, if there is one.
     pub fn trait_name(&self, number: usize) -> Option<&'a [u8]> {
         let name = *self.traits.get(number)?;
-        Some(self.names.text(name))
+        self.names.get(name).copied()
+    }
+
+    // The name of this number.
+    fn name(&self, number: usize) -> &'a [u8] {
+        self.names.get(number).copied().unwrap_or(b"")
     }
 
     /// Writes the type of this number as Rust does: nothing, where there is no such type. Only memory may be wanting.
@@ -245,7 +250,7 @@ impl<'a> Spelling<'a> {
         name: usize,
         arguments: &[usize],
     ) -> Result<(), NoMemory> {
-        page.write(self.names.text(name))?;
+        page.write(self.name(name))?;
         if arguments.is_empty() {
             return Ok(());
         }
@@ -259,10 +264,10 @@ impl<'a> Spelling<'a> {
         name: usize,
     ) -> Result<(), NoMemory> {
         if page.is_full {
-            page.write(self.names.text(function))?;
+            page.write(self.name(function))?;
             page.write(b"::")?;
         }
-        page.write(self.names.text(name))
+        page.write(self.name(name))
     }
 
     fn begin_array(
@@ -272,7 +277,7 @@ impl<'a> Spelling<'a> {
         arguments: &[usize],
     ) -> Result<(), NoMemory> {
         page.later(Piece::Text(b"]"))?;
-        page.later(Piece::Text(self.names.text(length)))?;
+        page.later(Piece::Text(self.name(length)))?;
         page.lay_out(b"[", arguments, b"; ")
     }
 
