@@ -1,22 +1,23 @@
 //! What each part of a text may be: parameters, bounds and types.
 
+use crate::grammar::item_rows;
 use crate::refusal::Problem::{NoTrait, NoType};
 use crate::spelling::Form;
 use crate::step::Doing::*;
 use crate::step::Making::*;
 use crate::step::Part::*;
-use crate::step::Row;
 use crate::step::Step::*;
 use crate::step::When::*;
+use crate::step::{Part, Row};
 
 // Parameters, where-clauses and bounds.
 
-pub(crate) const PARAMETERS: &[Row] = &[
+const PARAMETERS: &[Row] = &[
     (At("<"), &[Pass, Go(ParameterList), Word(">")]),
     (Else, &[]),
 ];
 
-pub(crate) const PARAMETER_LIST: &[Row] = &[
+const PARAMETER_LIST: &[Row] = &[
     (At(">"), &[]),
     (
         AtLifetime,
@@ -33,14 +34,14 @@ pub(crate) const PARAMETER_LIST: &[Row] = &[
     ),
 ];
 
-pub(crate) const PARAMETER_BOUNDS: &[Row] = &[
+const PARAMETER_BOUNDS: &[Row] = &[
     (At(":"), &[Pass, Go(Bounds), Do(EndBounds)]),
     (Else, &[Do(EndBounds)]),
 ];
 
-pub(crate) const OUTLIVES: &[Row] = &[(AtLifetime, &[Pass, If("+", Outlives)]), (Else, &[])];
+const OUTLIVES: &[Row] = &[(AtLifetime, &[Pass, If("+", Outlives)]), (Else, &[])];
 
-pub(crate) const WHERE_LIST: &[Row] = &[
+const WHERE_LIST: &[Row] = &[
     (At("{"), &[]),
     (At(";"), &[]),
     (AtEnd, &[]),
@@ -62,7 +63,7 @@ pub(crate) const WHERE_LIST: &[Row] = &[
 ];
 
 // Bounds of parameters, of types in where-clauses and of traits. There may be none, and `+` may end them.
-pub(crate) const BOUNDS: &[Row] = &[
+const BOUNDS: &[Row] = &[
     (AtLifetime, &[Pass, If("+", Bounds)]),
     (At("?"), &[Pass, Word("Sized"), Do(Relax), If("+", Bounds)]),
     (AtName, &[Pass, Make(Bound), If("+", Bounds)]),
@@ -70,19 +71,19 @@ pub(crate) const BOUNDS: &[Row] = &[
 ];
 
 // What `dyn` types name, several or one.
-pub(crate) const NAMED: &[Row] = &[
+const NAMED: &[Row] = &[
     (AtLifetime, &[Pass, If("+", Named)]),
     (AtName, &[Pass, Make(Bound), If("+", Named)]),
     (Else, &[]),
 ];
 
-pub(crate) const ONE_NAMED: &[Row] = &[
+const ONE_NAMED: &[Row] = &[
     (AtLifetime, &[Pass]),
     (AtName, &[Pass, Make(Bound)]),
     (Else, &[]),
 ];
 // What questions ask.
-pub(crate) const ASKED: &[Row] = &[
+const ASKED: &[Row] = &[
     (AtLifetime, &[Pass, If("+", Asked)]),
     (AtName, &[Pass, Make(Bound), If("+", Asked)]),
     (Else, &[Refuse(NoTrait)]),
@@ -90,18 +91,18 @@ pub(crate) const ASKED: &[Row] = &[
 
 // Types. Behind a mark a type is narrow: it takes no `+`.
 
-pub(crate) const TYPE: &[Row] = &[
+const TYPE: &[Row] = &[
     (AtName, &[Pass, Go(Arguments)]),
     (At("dyn"), &[Pass, Go(Named), Make(Dyn)]),
     (Else, &[Go(PlainType)]),
 ];
 
-pub(crate) const NARROW_TYPE: &[Row] = &[
+const NARROW_TYPE: &[Row] = &[
     (At("dyn"), &[Pass, Go(OneNamed), Make(Dyn)]),
     (Else, &[Go(PlainType)]),
 ];
 
-pub(crate) const PLAIN_TYPE: &[Row] = &[
+const PLAIN_TYPE: &[Row] = &[
     (AtName, &[Pass, Go(Arguments)]),
     (At("("), &[Pass, Make(Begin), Go(Parentheses)]),
     (At("["), &[Pass, Make(Begin), Go(Type), Go(Brackets)]),
@@ -114,37 +115,34 @@ pub(crate) const PLAIN_TYPE: &[Row] = &[
 ];
 
 // A type in parentheses, if no comma follows it, and else a tuple.
-pub(crate) const PARENTHESES: &[Row] = &[
+const PARENTHESES: &[Row] = &[
     (At(")"), &[Pass, Make(EndTuple)]),
     (Else, &[Go(Type), Go(ParenthesesNext)]),
 ];
 
-pub(crate) const PARENTHESES_NEXT: &[Row] = &[
+const PARENTHESES_NEXT: &[Row] = &[
     (At(")"), &[Pass, Make(EndParentheses)]),
     (Else, &[Word(","), Go(Tuple)]),
 ];
 
-pub(crate) const TUPLE: &[Row] = &[
+const TUPLE: &[Row] = &[
     (At(")"), &[Pass, Make(EndTuple)]),
     (Else, &[Go(Type), Go(TupleNext)]),
 ];
 
-pub(crate) const TUPLE_NEXT: &[Row] = &[
+const TUPLE_NEXT: &[Row] = &[
     (At(","), &[Pass, Go(Tuple)]),
     (Else, &[Word(")"), Make(EndTuple)]),
 ];
 
-pub(crate) const BRACKETS: &[Row] = &[
+const BRACKETS: &[Row] = &[
     (At("]"), &[Pass, Make(End(Form::Slice))]),
     (Else, &[Word(";"), Number, Make(EndArray), Word("]")]),
 ];
 
-pub(crate) const REFERENCE: &[Row] = &[
-    (AtLifetime, &[Pass, Go(Referent)]),
-    (Else, &[Go(Referent)]),
-];
+const REFERENCE: &[Row] = &[(AtLifetime, &[Pass, Go(Referent)]), (Else, &[Go(Referent)])];
 
-pub(crate) const REFERENT: &[Row] = &[
+const REFERENT: &[Row] = &[
     (
         At("mut"),
         &[Pass, Go(NarrowType), Make(End(Form::MutableReference))],
@@ -152,7 +150,7 @@ pub(crate) const REFERENT: &[Row] = &[
     (Else, &[Go(NarrowType), Make(End(Form::Reference))]),
 ];
 
-pub(crate) const POINTER: &[Row] = &[
+const POINTER: &[Row] = &[
     (
         At("const"),
         &[Pass, Go(NarrowType), Make(End(Form::ConstantPointer))],
@@ -163,25 +161,25 @@ pub(crate) const POINTER: &[Row] = &[
     ),
 ];
 
-pub(crate) const FUNCTION_TYPE: &[Row] = &[(Else, &[Word("("), Make(Begin), Go(FunctionParts)])];
+const FUNCTION_TYPE: &[Row] = &[(Else, &[Word("("), Make(Begin), Go(FunctionParts)])];
 
-pub(crate) const FUNCTION_PARTS: &[Row] = &[
+const FUNCTION_PARTS: &[Row] = &[
     (At(")"), &[Pass, Go(FunctionResult)]),
     (Else, &[Go(Type), Go(FunctionNext)]),
 ];
 
-pub(crate) const FUNCTION_NEXT: &[Row] = &[
+const FUNCTION_NEXT: &[Row] = &[
     (At(","), &[Pass, Go(FunctionParts)]),
     (Else, &[Word(")"), Go(FunctionResult)]),
 ];
 
-pub(crate) const FUNCTION_RESULT: &[Row] = &[
+const FUNCTION_RESULT: &[Row] = &[
     (At("->"), &[Pass, Go(NarrowType), Make(EndFunction)]),
     (Else, &[Make(Begin), Make(EndTuple), Make(EndFunction)]),
 ];
 
 // What follows a name that begins a type. In questions, `f::T` is the parameter of a function.
-pub(crate) const ARGUMENTS: &[Row] = &[
+const ARGUMENTS: &[Row] = &[
     (
         At("<"),
         &[
@@ -196,8 +194,48 @@ pub(crate) const ARGUMENTS: &[Row] = &[
     (Else, &[Make(Plain)]),
 ];
 
-pub(crate) const ARGUMENT_LIST: &[Row] = &[
+const ARGUMENT_LIST: &[Row] = &[
     (At(">"), &[]),
     (AtLifetime, &[Pass, If(",", ArgumentList)]),
     (Else, &[Go(Type), If(",", ArgumentList)]),
 ];
+
+/// What the part may be. Types, which are the most, come first.
+pub(crate) fn rows_of(part: Part) -> &'static [Row] {
+    match part {
+        Part::Type => TYPE,
+        Part::NarrowType => NARROW_TYPE,
+        Part::PlainType => PLAIN_TYPE,
+        Part::Parentheses => PARENTHESES,
+        Part::ParenthesesNext => PARENTHESES_NEXT,
+        Part::Tuple => TUPLE,
+        Part::TupleNext => TUPLE_NEXT,
+        Part::Brackets => BRACKETS,
+        Part::Reference => REFERENCE,
+        Part::Referent => REFERENT,
+        Part::Pointer => POINTER,
+        Part::FunctionType => FUNCTION_TYPE,
+        Part::FunctionParts => FUNCTION_PARTS,
+        Part::FunctionNext => FUNCTION_NEXT,
+        Part::FunctionResult => FUNCTION_RESULT,
+        Part::Arguments => ARGUMENTS,
+        Part::ArgumentList => ARGUMENT_LIST,
+        other => bound_rows(other),
+    }
+}
+
+// The same of parts of bounds.
+fn bound_rows(part: Part) -> &'static [Row] {
+    match part {
+        Part::Parameters => PARAMETERS,
+        Part::ParameterList => PARAMETER_LIST,
+        Part::ParameterBounds => PARAMETER_BOUNDS,
+        Part::Outlives => OUTLIVES,
+        Part::WhereList => WHERE_LIST,
+        Part::Bounds => BOUNDS,
+        Part::Named => NAMED,
+        Part::OneNamed => ONE_NAMED,
+        Part::Asked => ASKED,
+        other => item_rows(other),
+    }
+}

@@ -1,6 +1,5 @@
 //! What each part of a text may be: items and questions.
 
-use crate::bound_grammar::*;
 use crate::refusal::Problem::{Attribute as NoAttribute, NoItem, NoValue};
 use crate::spelling::Form;
 use crate::step::Doing::*;
@@ -394,83 +393,69 @@ const GIVEN_REFERENCE: &[Row] = &[
     (Else, &[Go(GivenValue), Do(Refer(Form::Reference))]),
 ];
 
-// What each part may be, in the order of `Part`.
-const ROWS: &[&[Row]] = &[
-    ITEMS,
-    ASKING,
-    AFTER_AUTO,
-    AFTER_FN,
-    PUBLIC,
-    PUBLIC_ITEM,
-    UNSAFE,
-    ITEM,
-    ATTRIBUTE,
-    OUTER_ATTRIBUTE,
-    INNER_ATTRIBUTE,
-    MARKED,
-    MARKED_PUBLIC,
-    MARKED_ITEM,
-    MARKED_TRAIT,
-    MARKED_ATTRIBUTE,
-    MARKED_OUTER_ATTRIBUTE,
-    LINTS,
-    LINTS_NEXT,
-    AUTO_TRAIT,
-    TRAITS,
-    ABOVE,
-    IMPL,
-    POLARITY,
-    STRUCT_FIELDS,
-    STRUCT_BODY,
-    TUPLE_FIELDS,
-    PUBLIC_FIELD,
-    PUBLIC_PARENTHESIS,
-    FIELDS,
-    FIELD_VISIBILITY,
-    VARIANTS,
-    VARIANT_FIELDS,
-    FUNCTION,
-    SIGNATURE,
-    VALUES,
-    DECLARED,
-    PATTERN,
-    BODY,
-    STATEMENTS,
-    NEVER,
-    STOPPING,
-    CALL_ARGUMENTS,
-    GIVEN,
-    GIVEN_VALUE,
-    GIVEN_REFERENCE,
-    PARAMETERS,
-    PARAMETER_LIST,
-    PARAMETER_BOUNDS,
-    OUTLIVES,
-    WHERE_LIST,
-    BOUNDS,
-    NAMED,
-    ONE_NAMED,
-    ASKED,
-    TYPE,
-    NARROW_TYPE,
-    PLAIN_TYPE,
-    PARENTHESES,
-    PARENTHESES_NEXT,
-    TUPLE,
-    TUPLE_NEXT,
-    BRACKETS,
-    REFERENCE,
-    REFERENT,
-    POINTER,
-    FUNCTION_TYPE,
-    FUNCTION_PARTS,
-    FUNCTION_NEXT,
-    FUNCTION_RESULT,
-    ARGUMENTS,
-    ARGUMENT_LIST,
-];
+/// What the part may be, if it is none of a type and of bounds.
+pub(crate) fn item_rows(part: Part) -> &'static [Row] {
+    match part {
+        Part::Above => ABOVE,
+        Part::Impl => IMPL,
+        Part::Polarity => POLARITY,
+        Part::StructFields => STRUCT_FIELDS,
+        Part::StructBody => STRUCT_BODY,
+        Part::TupleFields => TUPLE_FIELDS,
+        Part::PublicField => PUBLIC_FIELD,
+        Part::PublicParenthesis => PUBLIC_PARENTHESIS,
+        Part::Fields => FIELDS,
+        Part::FieldVisibility => FIELD_VISIBILITY,
+        Part::Variants => VARIANTS,
+        Part::VariantFields => VARIANT_FIELDS,
+        other => function_rows(other),
+    }
+}
 
-/// What the part may be.
-pub(crate) fn rows_of(part: Part) -> &'static [Row] {
-    ROWS.get(part as usize).copied().unwrap_or(&[])
+// The same of parts of functions.
+fn function_rows(part: Part) -> &'static [Row] {
+    match part {
+        Part::Function => FUNCTION,
+        Part::Signature => SIGNATURE,
+        Part::Values => VALUES,
+        Part::Declared => DECLARED,
+        Part::Pattern => PATTERN,
+        Part::Body => BODY,
+        Part::Statements => STATEMENTS,
+        Part::Never => NEVER,
+        Part::Stopping => STOPPING,
+        Part::CallArguments => CALL_ARGUMENTS,
+        Part::Given => GIVEN,
+        Part::GivenValue => GIVEN_VALUE,
+        Part::GivenReference => GIVEN_REFERENCE,
+        other => text_rows(other),
+    }
+}
+
+// The same of parts of a text.
+fn text_rows(part: Part) -> &'static [Row] {
+    match part {
+        Part::Items => ITEMS,
+        Part::Asking => ASKING,
+        Part::AfterAuto => AFTER_AUTO,
+        Part::AfterFn => AFTER_FN,
+        Part::Public => PUBLIC,
+        Part::PublicItem => PUBLIC_ITEM,
+        Part::Unsafe => UNSAFE,
+        Part::Item => ITEM,
+        Part::Attribute => ATTRIBUTE,
+        Part::OuterAttribute => OUTER_ATTRIBUTE,
+        Part::InnerAttribute => INNER_ATTRIBUTE,
+        Part::Marked => MARKED,
+        Part::MarkedPublic => MARKED_PUBLIC,
+        Part::MarkedItem => MARKED_ITEM,
+        Part::MarkedTrait => MARKED_TRAIT,
+        Part::MarkedAttribute => MARKED_ATTRIBUTE,
+        Part::MarkedOuterAttribute => MARKED_OUTER_ATTRIBUTE,
+        Part::Lints => LINTS,
+        Part::LintsNext => LINTS_NEXT,
+        Part::AutoTrait => AUTO_TRAIT,
+        Part::Traits => TRAITS,
+        _ => &[],
+    }
 }

@@ -1,6 +1,6 @@
 //! The machine that reads a text by the steps of its parts.
 
-use crate::grammar::rows_of;
+use crate::bound_grammar::rows_of;
 use crate::lexicon::Word;
 use crate::reader::Reader;
 use crate::refusal::{Problem, Stop};
