@@ -32,6 +32,12 @@ impl Draft {
         }
     }
 
+    /// Leaves all out.
+    pub(crate) fn clear(&mut self) {
+        self.shapes.clear();
+        self.clauses.clear();
+    }
+
     /// So many parameters, and no clause.
     pub(crate) fn with_parameters(alloc: Global, count: usize) -> Result<Draft, Stop> {
         let mut draft = Draft::new(alloc);

@@ -57,6 +57,21 @@ impl Item {
         }
     }
 
+    /// The same, in the memory of the item before.
+    pub(crate) fn begin(&mut self, word: Word, role: Role) {
+        self.word = word;
+        self.parameters.clear();
+        self.draft.clear();
+        self.role = role;
+        self.values.clear();
+        self.given.clear();
+        self.own = None;
+        self.subject = 0;
+        self.subject_place = 0;
+        self.bound = 0;
+        self.is_positive = true;
+    }
+
     /// Whether there is no such parameter, which does not stand in the type of the impl.
     pub(crate) fn check_unused(&self, place: Option<usize>) -> Result<(), Stop> {
         match self.parameters.get(place.unwrap_or(usize::MAX)) {

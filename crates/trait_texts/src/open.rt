@@ -93,6 +93,16 @@ impl Open {
         push(&mut self.bounds, bound)
     }
 
+    /// The bounds.
+    pub(crate) fn bounds(&self) -> &[usize] {
+        self.bounds.as_slice()
+    }
+
+    /// Leaves the bounds out.
+    pub(crate) fn forget_bounds(&mut self) {
+        self.bounds.clear();
+    }
+
     /// Takes the bounds.
     pub(crate) fn take_bounds(&mut self, alloc: Global) -> Vec<usize> {
         mem::replace(&mut self.bounds, Vec::new(alloc))

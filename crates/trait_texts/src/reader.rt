@@ -267,7 +267,7 @@ impl Reader {
     // The parameters of the item before mean nothing more.
     fn begin_item(&mut self, word: Word, role: Role) -> Result<(), Stop> {
         self.lexicon.forget_locals();
-        self.item = Item::new(self.alloc, word, role);
+        self.item.begin(word, role);
         Ok(())
     }
 
@@ -426,8 +426,10 @@ impl Reader {
 
     // The types of the shapes of the draft, in whose place is an empty one.
     fn take_types(&mut self) -> Result<Vec<usize>, Stop> {
-        let draft = self.take_draft();
-        self.program.types_of(self.alloc, draft.shapes(), &[])
+        let shapes = self.item.draft.shapes();
+        let types = self.program.types_of(self.alloc, shapes, &[])?;
+        self.item.draft.clear();
+        Ok(types)
     }
 
     // The type of this shape of the draft, in whose place is an empty one.
@@ -438,12 +440,13 @@ impl Reader {
 
     fn end_question(&mut self, word: Word) -> Result<(), Stop> {
         let shape = self.open.take()?;
-        let bounds = self.open.take_bounds(self.alloc);
-        if bounds.is_empty() {
+        if self.open.bounds().is_empty() {
             return Err(Stop::Refused(behind(word), Problem::NoTrait));
         }
         let subject = self.take_type(shape)?;
-        self.asking.ask(subject, bounds.as_slice())
+        self.asking.ask(subject, self.open.bounds())?;
+        self.open.forget_bounds();
+        Ok(())
     }
 
     fn begin_call(&mut self, word: Word) -> Result<(), Stop> {

@@ -58,10 +58,10 @@ enum Piece<'a> {
 
 // What is written, and what is still to be written, the last one first.
 #[derive(Drop)]
-struct Page<'a> {
+struct Page<'t, 'a> {
     // The parameter of a function is written as a question names it.
     is_full: bool,
-    text: Vec<u8>,
+    text: &'t mut Vec<u8>,
     pieces: Vec<Piece<'a>>,
 }
 
@@ -72,7 +72,7 @@ struct Spread {
     arguments: Vec<usize>,
 }
 
-impl<'a> Page<'a> {
+impl<'t, 'a> Page<'t, 'a> {
     fn write(&mut self, text: &[u8]) -> Result<(), NoMemory> {
         self.text.extend_from_slice(text)?;
         Ok(())
@@ -114,7 +114,8 @@ impl<'a> Spelling<'a> {
         self.names.get(number).copied().unwrap_or(b"")
     }
 
-    /// Writes the type of this number as Rust does: nothing, where there is no such type. Only memory may be wanting.
+    /// Writes the type of this number as Rust does: nothing, where there is no such type. Only memory may be wanting: then
+    /// some of it may be written.
     pub fn write_type(
         &self,
         alloc: Global,
@@ -146,20 +147,18 @@ impl<'a> Spelling<'a> {
     ) -> Result<(), NoMemory> {
         let mut page = Page {
             is_full,
-            text: Vec::new(alloc),
+            text,
             pieces: Vec::new(alloc),
         };
-        page.later(Piece::Type(number))?;
-        self.write_pieces(alloc, &mut page, terms)?;
-        text.extend_from_slice(page.text.as_slice())?;
-        Ok(())
+        self.begin_type(alloc, &mut page, terms, number)?;
+        self.write_pieces(alloc, &mut page, terms)
     }
 
     // Writes all that is still to be written.
     fn write_pieces(
         &self,
         alloc: Global,
-        page: &mut Page<'a>,
+        page: &mut Page<'_, 'a>,
         terms: &Terms,
     ) -> Result<(), NoMemory> {
         for _ in 0..u64::MAX {
@@ -175,7 +174,7 @@ impl<'a> Spelling<'a> {
     fn write_piece(
         &self,
         alloc: Global,
-        page: &mut Page<'a>,
+        page: &mut Page<'_, 'a>,
         terms: &Terms,
         piece: Piece<'a>,
     ) -> Result<(), NoMemory> {
@@ -194,7 +193,7 @@ impl<'a> Spelling<'a> {
     fn begin_marked(
         &self,
         alloc: Global,
-        page: &mut Page<'a>,
+        page: &mut Page<'_, 'a>,
         terms: &Terms,
         number: usize,
     ) -> Result<(), NoMemory> {
@@ -225,7 +224,7 @@ impl<'a> Spelling<'a> {
     fn begin_type(
         &self,
         alloc: Global,
-        page: &mut Page<'a>,
+        page: &mut Page<'_, 'a>,
         terms: &Terms,
         number: usize,
     ) -> Result<(), NoMemory> {
@@ -246,7 +245,7 @@ impl<'a> Spelling<'a> {
 
     fn begin_path(
         &self,
-        page: &mut Page<'a>,
+        page: &mut Page<'_, 'a>,
         name: usize,
         arguments: &[usize],
     ) -> Result<(), NoMemory> {
@@ -259,7 +258,7 @@ impl<'a> Spelling<'a> {
 
     fn write_constant(
         &self,
-        page: &mut Page<'a>,
+        page: &mut Page<'_, 'a>,
         function: usize,
         name: usize,
     ) -> Result<(), NoMemory> {
@@ -272,7 +271,7 @@ impl<'a> Spelling<'a> {
 
     fn begin_array(
         &self,
-        page: &mut Page<'a>,
+        page: &mut Page<'_, 'a>,
         length: usize,
         arguments: &[usize],
     ) -> Result<(), NoMemory> {
@@ -284,7 +283,7 @@ impl<'a> Spelling<'a> {
     // The result comes first. It is left out where it is `()`.
     fn begin_function(
         &self,
-        page: &mut Page<'a>,
+        page: &mut Page<'_, 'a>,
         terms: &Terms,
         arguments: &[usize],
     ) -> Result<(), NoMemory> {
@@ -299,7 +298,12 @@ impl<'a> Spelling<'a> {
     }
 
     // The traits, in the order of their names.
-    fn write_dyn(&self, alloc: Global, page: &mut Page<'a>, set: usize) -> Result<(), NoMemory> {
+    fn write_dyn(
+        &self,
+        alloc: Global,
+        page: &mut Page<'_, 'a>,
+        set: usize,
+    ) -> Result<(), NoMemory> {
         let mut names = self.names_of(alloc, set)?;
         names.sort_unstable();
         let mut mark = b"dyn ".as_slice();
@@ -351,7 +355,7 @@ impl<'a> Spelling<'a> {
 }
 
 // Begins a type that is a mark or stands between two.
-fn begin_marks(page: &mut Page<'_>, form: Form, arguments: &[usize]) -> Result<(), NoMemory> {
+fn begin_marks(page: &mut Page<'_, '_>, form: Form, arguments: &[usize]) -> Result<(), NoMemory> {
     let (before, behind) = match form {
         Form::Reference => (b"&".as_slice(), b"".as_slice()),
         Form::MutableReference => (b"&mut ".as_slice(), b"".as_slice()),
