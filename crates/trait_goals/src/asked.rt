@@ -1,13 +1,29 @@
 //! What goals ask, and what they are asked by.
-ghost use Rattle.std.specs.Prelude.{◌+◌, ◌<◌, ◌^◌, vec_len};
+ghost use Rattle.std.specs.Prelude.{◌+◌, ◌*◌, ◌%◌, ◌<◌, ◌^◌, vec_len};
 
+use std::hash::{Hash, Hasher};
 use trait_rules::Key;
 
 /// The question whether the type of this number implements the trait of this number.
-#[derive(Clone, Copy, Debug, PartialEq, Eq, Hash, Drop)]
+#[derive(Clone, Copy, Debug, PartialEq, Eq, Drop)]
 pub struct Asked {
     pub subject: usize,
     pub bound: usize,
+}
+
+// Goals are looked for so often that both numbers are hashed as one.
+impl Hash for Asked {
+    ghost use Rattle.std.specs.Hash.{usize};
+    ghost use Rattle.std.proofs.Common.{rules};
+    ghost use Rattle.std.specs.Cmp.Rules.{hashing};
+
+    ghost hash_input = { λ asked. usize ((asked.subject * 2 ^ 32 % 2 ^ 64 + asked.bound) % 2 ^ 64) };
+
+    ghost respects_eq = { Prim.search (hashing, rules) };
+
+    fn hash<H: Hasher>(&self, state: &mut H) {
+        state.write_usize(self.subject.wrapping_mul(1 << 32).wrapping_add(self.bound));
+    }
 }
 
 impl Key for Asked {

@@ -72,6 +72,34 @@ pub fn make_known(
     Ok(())
 }
 
+impl Visit {
+    // Goes on to the next question, if there is one.
+    fn next_question(&mut self, goals: &Goals) -> Option<usize> {
+        let known = goals.candidates(self.goal)?;
+        for candidate in self.candidate..known.all.len() {
+            self.candidate = candidate;
+            if let Some(goal) = known.all[candidate].questions.get(self.place) {
+                self.place = self.place.saturating_add(1);
+                return Some(*goal);
+            }
+            self.place = 0;
+        }
+        None
+    }
+
+    // How many goals may stand below a question, if it is not cut off, which is noted.
+    fn depth_below(&mut self) -> Option<usize> {
+        if self.depth == 0 {
+            self.is_cut_off = true;
+            None
+        } else if self.is_cut_off {
+            Some(self.depth / PART)
+        } else {
+            Some(self.depth - 1)
+        }
+    }
+}
+
 impl Scout {
     fn new(alloc: Global, asked: &[usize], depth: usize) -> Result<Scout, NoMemory> {
         let mut scout = Scout {
@@ -90,14 +118,15 @@ impl Scout {
     // Goes on to the next goal that is not known. It is gone through when this is called again.
     fn next(&mut self, goals: &Goals) -> Result<Option<usize>, NoMemory> {
         for _ in 0..STEPS {
-            let wanted = match (self.open.pop(), self.asked.last()) {
-                (Some(visit), _) => self.go_on(goals, visit)?,
-                (None, Some(goal)) => {
-                    let goal = *goal;
-                    let _asked = self.asked.pop();
-                    self.begin(goals, goal, self.depth)?
+            let wanted = match self.open.last_mut() {
+                Some(visit) => {
+                    let question = visit.next_question(goals);
+                    self.go_on(goals, question)?
                 }
-                (None, None) => return Ok(None),
+                None => match self.asked.pop() {
+                    Some(goal) => self.begin(goals, goal, self.depth)?,
+                    None => return Ok(None),
+                },
             };
             if wanted.is_some() {
                 return Ok(wanted);
@@ -106,45 +135,18 @@ impl Scout {
         Ok(None)
     }
 
-    // Goes on with the newest goal.
-    fn go_on(&mut self, goals: &Goals, visit: Visit) -> Result<Option<usize>, NoMemory> {
-        let candidate = match goals.candidates(visit.goal) {
-            Some(known) => known.all.get(visit.candidate),
-            None => None,
-        };
-        let Some(candidate) = candidate else {
-            self.leave(visit);
-            return Ok(None);
-        };
-        match candidate.questions.get(visit.place) {
-            Some(goal) => self.ask(goals, visit, *goal),
-            None => {
-                self.open.push(Visit {
-                    candidate: visit.candidate.saturating_add(1),
-                    place: 0,
-                    ..visit
-                })?;
+    // Goes on with the newest goal, of which this is the next question.
+    fn go_on(&mut self, goals: &Goals, question: Option<usize>) -> Result<Option<usize>, NoMemory> {
+        match (question, self.open.last_mut()) {
+            (Some(goal), Some(visit)) => match visit.depth_below() {
+                Some(depth) => self.enter(goals, goal, depth),
+                None => Ok(None),
+            },
+            _ => {
+                self.leave();
                 Ok(None)
             }
         }
-    }
-
-    // Asks a question, or cuts it off.
-    fn ask(&mut self, goals: &Goals, visit: Visit, goal: usize) -> Result<Option<usize>, NoMemory> {
-        self.open.push(Visit {
-            place: visit.place.saturating_add(1),
-            is_cut_off: visit.is_cut_off || visit.depth == 0,
-            ..visit
-        })?;
-        if visit.depth == 0 {
-            return Ok(None);
-        }
-        let depth = if visit.is_cut_off {
-            visit.depth / PART
-        } else {
-            visit.depth - 1
-        };
-        self.enter(goals, goal, depth)
     }
 
     // Goes into the goal, unless that was done with as much depth. It is returned if it is not known.
@@ -201,8 +203,11 @@ impl Scout {
         }
     }
 
-    // The goal was gone through.
-    fn leave(&mut self, visit: Visit) {
+    // The newest goal was gone through.
+    fn leave(&mut self) {
+        let Some(visit) = self.open.pop() else {
+            return;
+        };
         if let Some(seen) = self.seen.get_mut(visit.goal) {
             seen.is_cut_off = visit.is_cut_off;
         }
