@@ -4,6 +4,7 @@ ghost use Rattle.trait_answers.specs.Below.{AreAllDecided};
 ghost use Rattle.trait_answers.specs.Deciding.{KeepsDeciding};
 
 use delegate_parts::Outcome;
+use search_graph::graph::SearchGraph;
 use search_parts::global_cache::GlobalCache;
 use std::alloc::Global;
 use trait_goals::{GoalsDelegate, LendsGoals};
@@ -22,7 +23,8 @@ pub struct Answered {
 #[derive(Drop)]
 pub struct Answers<L: LendsGoals> {
     pub(crate) cache: GlobalCache<GoalsDelegate<L>>,
-    pub(crate) alloc: Global,
+    // It is renewed for each question.
+    pub(crate) graph: SearchGraph<GoalsDelegate<L>>,
     // Each question so far had as much depth as there are goals.
     pub(crate) had_depth: bool,
     // Then, where all goals are decided, what is stored never keeps a question from being answered.

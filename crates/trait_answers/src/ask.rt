@@ -51,7 +51,7 @@ fn evaluated<D: Delegate>(
 // Asks a goal at a depth.
 fn asked<L: LendsGoals>(
     cache: &mut GlobalCache<GoalsDelegate<L>>,
-    alloc: Global,
+    graph: &mut SearchGraph<GoalsDelegate<L>>,
     goal: usize,
     depth: usize,
 ) -> Result<Answered, Fault<usize, Outcome>>
@@ -66,9 +66,9 @@ fn asked<L: LendsGoals>(
 {
     // This is asked for what it ensures of all goals alone.
     let _asked = cache.cx().0.0.lender.goals().asked(goal);
-    let mut graph = SearchGraph::<GoalsDelegate<L>>::new(alloc, depth);
+    graph.renew(depth);
     let mut builder = Builder::new(true);
-    match evaluated(cache, &mut graph, goal, &mut builder) {
+    match evaluated(cache, graph, goal, &mut builder) {
         Ok(answer) => Ok(Answered {
             outcome: answer.result,
             limits_met: graph.limits_met(),
@@ -92,7 +92,7 @@ impl<L: LendsGoals> Answers<L> {
     {
         Answers {
             cache: empty_cache(alloc, lender),
-            alloc,
+            graph: SearchGraph::new(alloc, 0),
             had_depth: true,
         }
     }
@@ -132,7 +132,7 @@ impl<L: LendsGoals> Answers<L> {
                 limits_met: false,
             });
         }
-        asked(&mut self.cache, self.alloc, goal, depth)
+        asked(&mut self.cache, &mut self.graph, goal, depth)
     }
 
     /// Whether each question so far had as much depth as there are goals.

@@ -36,28 +36,28 @@ pub returns-in-Ok-clause-told : goal.returns-in-Ok-clause-told
 returns-in-Ok-clause-told g c = λ can ready.
     let old = c.args.cache.now in
     let table = g.L.LendsGoals.table_of old.cx.0.0.lender in
-    let graph = c.new-graph.result in
+    let graph = c.renew.new.self in
     let lent : c.goals.result.now ≡ table =
     let lent = c.goals.ensures in let cx = c.cx.ensures in search rules in
     let right = subst AreRight lent c.asked-asked.ensures.right in
-    let deep = ap (λ graph. graph.root_depth) c.new-graph.ensures in
+    let deep = ap (λ graph. graph.root_depth) c.renew.ensures in
     let runs = enough _ _ _ table old graph.root_depth c.args.goal _ right refl refl (omega arith) (λ _. refl)
     c.new-builder.ensures.noop (subst (CanBeTold table c.args.goal) (sym deep) can) ready in
     ends_told _ _ _ table old c.in-Ok.answer _ c.limits_met.result c.evaluated.new.cache c.limits_met.ensures refl refl
     refl
-    (c.in-Ok.ensures.decided (goals_of table) runs (ap (λ graph. graph.limits_met) c.new-graph.ensures))
+    (c.in-Ok.ensures.decided (goals_of table) runs (ap (λ graph. graph.limits_met) c.renew.ensures))
 
-pub returns-clause-told : goal.returns-clause-told
-returns-clause-told g c = λ can ready.
+pub returns-in-Err-clause-told : goal.returns-in-Err-clause-told
+returns-in-Err-clause-told g c = λ can ready.
     let old = c.args.cache.now in
     let table = g.L.LendsGoals.table_of old.cx.0.0.lender in
-    let graph = c.new-graph.result in
+    let graph = c.renew.new.self in
     let lent : c.goals.result.now ≡ table =
     let lent = c.goals.ensures in let cx = c.cx.ensures in search rules in
     let right = subst AreRight lent c.asked-asked.ensures.right in
-    let deep = ap (λ graph. graph.root_depth) c.new-graph.ensures in
+    let deep = ap (λ graph. graph.root_depth) c.renew.ensures in
     let runs = enough _ _ _ table old graph.root_depth c.args.goal _ right refl refl (omega arith) (λ _. refl)
     c.new-builder.ensures.noop (subst (CanBeTold table c.args.goal) (sym deep) can) ready in
     fault_told _ _ _ table old c.in-Err.fault _ c.evaluated.new.cache c.evaluated.ensures.same_context refl refl refl
     (λ _. refl) c.in-Err.ensures.faults
-    (c.in-Err.ensures.decided (goals_of table) runs (ap (λ graph. graph.limits_met) c.new-graph.ensures))
+    (c.in-Err.ensures.decided (goals_of table) runs (ap (λ graph. graph.limits_met) c.renew.ensures))
