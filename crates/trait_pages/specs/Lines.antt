@@ -17,13 +17,14 @@ cycle_words Coinductive = codes " (cycle)\n"
 cycle_words Unknown = codes " (cycle)\n"
 cycle_words ForcedAmbiguity = codes " (goals)\n"
 
--- why a question came to maybe, if that is seen
+-- Why a question came to maybe, if that is seen. A goal that was known, and of which nothing is noted, came to maybe with a
+-- cycle that it was part of.
 abbrev pub cause_words : Option Cause → List ℕ
 cause_words None = codes "\n"
 cause_words (Some (Depth or_runs)) = codes " (depth)\n"
 cause_words (Some Runs) = codes " (runs)\n"
 cause_words (Some (Cycle kind)) = cycle_words kind
-cause_words (Some Known) = codes "\n"
+cause_words (Some Known) = codes " (cycle)\n"
 
 -- what follows the name of a goal: what it came to
 abbrev pub came_words : Result Outcome (Fault ℕ Outcome) → Option Cause → List ℕ

@@ -105,7 +105,8 @@ fn words_of_cause(cause: Option<Cause>) -> &'static [u8]
         Some(Cause::Depth { .. }) => b" (depth)\n",
         Some(Cause::Runs) => b" (runs)\n",
         Some(Cause::Cycle(kind)) => words_of_cycle(kind),
-        Some(Cause::Known) | None => b"\n",
+        Some(Cause::Known) => b" (cycle)\n",
+        None => b"\n",
     }
 }
 
