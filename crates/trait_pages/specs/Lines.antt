@@ -17,8 +17,8 @@ cycle_words Coinductive = codes " (cycle)\n"
 cycle_words Unknown = codes " (cycle)\n"
 cycle_words ForcedAmbiguity = codes " (goals)\n"
 
--- Why a question came to maybe, if that is seen. A goal that was known, and of which nothing is noted, came to maybe with a
--- cycle that it was part of.
+-- Why a question came to maybe, if that is seen. A goal that was known, and of which nothing is noted, came to maybe
+-- with a cycle that it was part of.
 abbrev pub cause_words : Option Cause → List ℕ
 cause_words None = codes "\n"
 cause_words (Some (Depth or_runs)) = codes " (depth)\n"
