@@ -28,7 +28,15 @@ const ITEMS: &[Row] = &[
     (Else, &[Go(Item), Go(Items)]),
 ];
 
-const QUESTION: &[Step] = &[Do(BeginQuestion), Go(Type), Go(Asking), Go(Items)];
+const QUESTION: &[Step] = &[
+    Do(BeginQuestion),
+    Go(Type),
+    Word(":"),
+    Go(Asked),
+    Do(Ask),
+    Word("?"),
+    Go(Items),
+];
 
 const ASKING: &[Row] = &[(Else, &[Word(":"), Go(Asked), Do(Ask), Word("?")])];
 

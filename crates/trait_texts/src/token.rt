@@ -80,9 +80,17 @@ pub(crate) fn add_words<'a>(
         if behind.is_empty() || matches!(piece.kind, Kind::OpenComment) {
             break;
         }
-        rest = behind;
+        rest = without_blank(behind);
     }
     add_word(names, tokens, Kind::End, b"", place)
+}
+
+// What is left behind the one blank that most words have behind them.
+fn without_blank(rest: &[u8]) -> &[u8] {
+    match rest {
+        [b' ', behind @ ..] => behind,
+        _ => rest,
+    }
 }
 
 // Adds a word. A name that is a keyword is a mark.
