@@ -1,5 +1,5 @@
 //! Tables in which one goal needs more runs than any number that is chosen beforehand, where scripts stop early and
-//! provisional entries are used. `docs/PROOF.md` says how it comes about.
+//! provisional entries are used. `docs/TWO_RUNS.md` says how it comes about.
 //!
 //! A run has the number of switches, with the options of the search. What its first goal comes to, and by how many frames, is
 //! what rustc's own code comes to. The answers to all goals over one cache have to be shown by their graphs.
