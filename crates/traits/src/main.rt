@@ -11,8 +11,8 @@ mod rounds;
 
 use arguments::{How, USAGE, order_of};
 use program::{answer, ask_declared, show, tell_rules};
-use std::io;
 use std::process::ExitCode;
+use std::{io, mem};
 use trait_pages::{Stop, Text, check, declared_in, read_file, read_texts, sources_of, status_told};
 
 fn main(rt: HostRuntime) -> ExitCode {
@@ -75,9 +75,12 @@ fn tell(rt: &HostRuntime, how: How, texts: &[Text<'_>], as_rustc: bool) -> Resul
     let declared = declared_in(alloc, sources.as_slice(), as_rustc)?;
     let answered = ask_declared(alloc, declared)?;
     let mut out = rt.stdout();
-    match (how.form(), how) {
+    let told = match (how.form(), how) {
         (Some(form), _) => show(alloc, &answered, form, &mut out),
         (None, How::Rules) => tell_rules(alloc, &answered, &mut out),
         (None, _) => answer(alloc, &answered, &mut out, &mut rt.stderr()),
-    }
+    };
+    // The process ends with this: the system takes its memory back faster than piece by piece.
+    mem::forget(answered);
+    told
 }
