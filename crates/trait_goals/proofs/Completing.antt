@@ -3,7 +3,7 @@ use Rattle.std.proofs.Common.{◌≡◌, ◌<◌, ◌≤◌, ◌+◌, ℕ, zero,
 use Rattle.std.proofs.Common.{Option, Some, None}
 use Rattle.std.proofs.Common.{refl, sym, ◌∙◌, ap₂, subst, arith}
 use Rattle.std.specs.Prelude.{slice_get}
-use Rattle.std.specs.Option.{IfSome, IsSomeAnd}
+use Rattle.std.specs.Option.{IfSome}
 use Rattle.std.proofs.lemmas.Option.{slice_get_cases, slice_get_within}
 use native.Mathlib.Decide.{dec_lt}
 use Rattle.trait_rules.specs.declared.rules.Shape.TheVariants.{Parameter, Constructor, Applied}
@@ -217,6 +217,3 @@ head_apart was made rule subject number all term once keeps stands at_head other
     other (one_number made once number subject term
     (subst (λ t. Stands made number t) is.is_head ((each others is).told rule.head number at_head)) (stands_in keeps
     subject term stands))
-
-pub nothing_found : {A : Type 0} (P : A → Type 0) (o : Option A) → o ≡ None → IsSomeAnd o P → ⊥
-nothing_found P o is h = let n : IsSomeAnd None P = subst (λ p. IsSomeAnd p P) is h in n

@@ -4,7 +4,7 @@ use Rattle.std.proofs.Common.{Option, Some, None}
 use Rattle.std.proofs.Common.{refl, sym, ◌∙◌, ap, subst, arith}
 use Rattle.std.proofs.Math.ListN.{set}
 use Rattle.std.specs.Prelude.{slice_get}
-use Rattle.std.specs.Option.{IfSome, IsSomeAnd}
+use Rattle.std.specs.Option.{IfSome}
 use Rattle.trait_rules.specs.Terms.{applied, applied_at, constructor, constructor_at}
 use Rattle.trait_rules.specs.declared.made.Made.TheVariants.{Applied as MadeApplied, Constructor as MadeConstructor}
 use Rattle.trait_rules.specs.declared.rules.Shape.TheVariants.{Constructor, Applied}
@@ -142,9 +142,6 @@ read_found xs ys place number o same is some =
 
 pub some_so : {A : Type 0} (P : A → Type 0) (o : Option A) (x : A) → o ≡ Some x → IfSome o P → P x
 some_so P o x is h = let s : IfSome (Some x) P = subst (λ p. IfSome p P) is h in s
-
-pub found_so : {A : Type 0} (P : A → Type 0) (o : Option A) (x : A) → o ≡ Some x → IsSomeAnd o P → P x
-found_so P o x is h = let s : IsSomeAnd (Some x) P = subst (λ p. IsSomeAnd p P) is h in s
 
 pub read_at : {A : Type 0} (xs ys : List A) (place : ℕ) (x : A) → ys ≡ xs → Some x ≡ slice_get ys place →
     slice_get xs place ≡ Some x

@@ -12,10 +12,11 @@ pub record HasInstance (made : List Made) (rule : Rule) (term : Term) (all : Lis
   pub told : AllTold made all types
   pub each : (others : ℕ → Term) → IsInstance rule others term → AllTold made all others
 
-abbrev pub IsFound : List Made → Rule → Term → Found → Type 0
-IsFound made rule term Apart = (types : ℕ → Term) → IsInstance rule types term → ⊥
-IsFound made rule term (Types all) = HasInstance made rule term all.items
-IsFound made rule term Open = Unit {0}
+-- what was found, with these types for the shapes
+abbrev pub IsFound : List Made → Rule → Term → List ℕ → Found → Type 0
+IsFound made rule term all Apart = (types : ℕ → Term) → IsInstance rule types term → ⊥
+IsFound made rule term all Types = HasInstance made rule term all
+IsFound made rule term all Open = Unit {0}
 
 -- the types of so many shapes
 pub record AreCompleted (was made : List Made) (rule : Rule) (found : List (Option ℕ)) (count : ℕ) (all : List ℕ) :

@@ -6,6 +6,7 @@ ghost use Rattle.trait_goals.specs.Trying.{Extends};
 
 use crate::asked::{Asked, Candidates};
 use crate::growing::{find_candidates, note_known};
+use crate::instance::Instance;
 use search_context::context::NoMemory;
 use search_context::path::PathKind;
 use std::alloc::Global;
@@ -19,6 +20,7 @@ pub struct Goals {
     pub(crate) terms: Terms,
     pub(crate) asked: Numbered<Asked>,
     pub(crate) known: Vec<Option<Candidates>>,
+    instance: Instance,
 }
 
 impl Model for Goals {
@@ -44,6 +46,7 @@ impl Goals {
             terms,
             asked: Numbered::new(alloc),
             known: Vec::new(alloc),
+            instance: Instance::new(alloc),
         }
     }
 
@@ -84,7 +87,15 @@ impl Goals {
         let Some(asked) = self.asked.get(goal) else {
             return Ok(false);
         };
-        let found = find_candidates(alloc, &self.rules, &mut self.terms, &mut self.asked, asked);
+        let instance = &mut self.instance;
+        let found = find_candidates(
+            alloc,
+            instance,
+            &self.rules,
+            &mut self.terms,
+            &mut self.asked,
+            asked,
+        );
         // What is asked of it is that the parts of a type come first, whatever was found.
         let _count = self.terms.len();
         let Some(candidates) = found? else {

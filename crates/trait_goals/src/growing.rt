@@ -6,6 +6,7 @@ ghost use Rattle.trait_goals.specs.Known.{Covers, known_at, lists_of};
 ghost use Rattle.trait_goals.specs.Trying.{AreInside, IsKnownMore, IsNextTried, lists_in};
 
 use crate::asked::{Asked, Candidate, Candidates};
+use crate::instance::Instance;
 use crate::trying::{Tried, try_rule};
 use search_context::context::NoMemory;
 use std::alloc::Global;
@@ -17,6 +18,7 @@ const MOST: usize = 0xffff_fff0;
 // Tries what stands at a place of a trait's rules. Whether all is known so far.
 fn try_next(
     alloc: Global,
+    instance: &mut Instance,
     terms: &mut Terms,
     asked: &mut Numbered<Asked>,
     given: Option<&Rule>,
@@ -34,7 +36,7 @@ fn try_next(
     let Some(rule) = given else {
         return Ok(true);
     };
-    match try_rule(alloc, terms, asked, rule, goal)? {
+    match try_rule(alloc, instance, terms, asked, rule, goal)? {
         Tried::Apart => Ok(true),
         Tried::Open => Ok(false),
         Tried::By(candidate) => {
@@ -50,6 +52,7 @@ fn try_next(
 /// The candidates of a goal, unless some rule does not tell them. Types and goals that are new are added.
 pub(crate) fn find_candidates(
     alloc: Global,
+    instance: &mut Instance,
     rules: &Rules,
     terms: &mut Terms,
     asked: &mut Numbered<Asked>,
@@ -69,7 +72,7 @@ pub(crate) fn find_candidates(
         let Some(given) = rules.rule_at(goal.bound, constructor, place) else {
             return Ok(Some(Candidates { all }));
         };
-        if !try_next(alloc, terms, asked, given, goal, &mut all)? {
+        if !try_next(alloc, instance, terms, asked, given, goal, &mut all)? {
             return Ok(None);
         }
     }

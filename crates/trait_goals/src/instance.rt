@@ -1,6 +1,5 @@
 //! The types that stand in the shapes of a rule.
-ghost use Rattle.std.specs.Prelude.{◌≡◌, ℕ, List, true, length, slice_get, IfOk, IfSome, Some};
-ghost use Rattle.std.specs.Option.{IsSomeAnd};
+ghost use Rattle.std.specs.Prelude.{◌≡◌, ℕ, List, true, length, slice_get, IfOk, IfSome, OnOk, Some};
 ghost use Rattle.trait_goals.specs.Below.{IsInstance, IsOnce, IsShaped, Keeps, Made, Stands, Term};
 ghost use Rattle.trait_goals.specs.Instances.{AllTold, AreMade, AreTold, IsMade};
 ghost use Rattle.trait_goals.specs.Finding.{IsFound};
@@ -10,14 +9,39 @@ use std::alloc::Global;
 use trait_rules::{Made, Rule, Shape, Terms};
 
 /// What was found of a rule and a type.
-#[derive(Debug, Drop)]
-pub enum Found {
+#[derive(Clone, Copy, Debug)]
+pub(crate) enum Found {
     /// The rule is none for the type.
     Apart,
-    /// With these types for its shapes, the rule is one for the type.
-    Types(Vec<usize>),
+    /// With a type for each of its shapes, the rule is one for the type.
+    Types,
     /// The rule does not tell a type for each of its shapes.
     Open,
+}
+
+/// The types that stand in the shapes of a rule. Each rule that is tried takes the memory of the one before.
+#[derive(Drop)]
+pub(crate) struct Instance {
+    /// Those of which the type itself consists.
+    found: Vec<Option<usize>>,
+    /// Those of all shapes, where they were found.
+    all: Vec<usize>,
+}
+
+impl Instance {
+    pub(crate) fn new(alloc: Global) -> Instance {
+        Instance {
+            found: Vec::new(alloc),
+            all: Vec::new(alloc),
+        }
+    }
+
+    /// The types of all shapes, where they were found.
+    pub(crate) fn types(&self) -> &[usize]
+        ensures { result.now ≡ self.now.all.items }
+    {
+        self.all.as_slice()
+    }
 }
 
 /// What stands at a place.
@@ -96,12 +120,12 @@ fn match_at(terms: &Terms, rule: &Rule, place: usize, found: &mut Vec<Option<usi
     }
 }
 
-// No types but that of the head.
-fn with_head(alloc: Global, rule: &Rule, subject: usize) -> Result<Vec<Option<usize>>, NoMemory>
-    ensures { IfOk result (λ found. (place number : ℕ) → slice_get found.items place ≡ Some (Some number) →
+// Leaves no types but that of the head.
+fn note_head(found: &mut Vec<Option<usize>>, rule: &Rule, subject: usize) -> Result<(), NoMemory>
+    ensures { OnOk result ((place number : ℕ) → slice_get found.new.items place ≡ Some (Some number) →
         (place ≡ rule.now.head) × (number ≡ subject)) }
 {
-    let mut found = Vec::new(alloc);
+    found.clear();
     for place in 0..rule.shapes.len() {
         if place == rule.head {
             found.push(Some(subject))?;
@@ -109,26 +133,26 @@ fn with_head(alloc: Global, rule: &Rule, subject: usize) -> Result<Vec<Option<us
             found.push(None)?;
         }
     }
-    Ok(found)
+    Ok(())
 }
 
-// The types that stand in the shapes of which the head consists, if the rule is one for the subject.
+// Whether the rule can be one for the subject. Then the types are found that stand in the shapes of which the head consists.
 fn match_head(
-    alloc: Global,
     terms: &Terms,
     rule: &Rule,
     subject: usize,
-) -> Result<Option<Vec<Option<usize>>>, NoMemory>
-    ensures { IfOk result (λ o. (types : ℕ → Term) (term : Term) → Stands terms.now subject term →
-        IsInstance rule.now types term → IsSomeAnd o (λ found. AreTold terms.now found.items types)) }
+    found: &mut Vec<Option<usize>>,
+) -> Result<bool, NoMemory>
+    ensures { IfOk result (λ is_for. (types : ℕ → Term) (term : Term) → Stands terms.now subject term →
+        IsInstance rule.now types term → (is_for ≡ true) × AreTold terms.now found.new.items types) }
 {
-    let mut found = with_head(alloc, rule, subject)?;
+    note_head(found, rule, subject)?;
     for place in (0..rule.shapes.len()).rev() {
-        if !match_at(terms, rule, place, &mut found) {
-            return Ok(None);
+        if !match_at(terms, rule, place, found) {
+            return Ok(false);
         }
     }
-    Ok(Some(found))
+    Ok(true)
 }
 
 // The number of the type that stands in a shape, if those of its parts are known.
@@ -173,56 +197,55 @@ fn noted_at(found: &[Option<usize>], place: usize) -> Option<usize>
     }
 }
 
-// The types of all shapes, of which these were found. There are none where the rule does not tell them.
+// Finds the types of all shapes, of which these are found. Whether the rule tells them.
 fn complete(
-    alloc: Global,
     terms: &mut Terms,
     rule: &Rule,
     found: &[Option<usize>],
-) -> Result<Option<Vec<usize>>, NoMemory>
+    all: &mut Vec<usize>,
+) -> Result<bool, NoMemory>
     ensures keeps { Keeps terms.old terms.new }
-    ensures count { IfOk result (λ o. IfSome o (λ all. length all.items ≡ length rule.now.shapes.items)) }
-    ensures made { IfOk result (λ o. IfSome o (λ all. AreMade terms.new rule.now.shapes.items all.items)) }
-    ensures told { IfOk result (λ o. IfSome o (λ all. (types : ℕ → Term) (term : Term) →
+    ensures count { IfOk result (λ is_told. is_told ≡ true → length all.new.items ≡ length rule.now.shapes.items) }
+    ensures made { IfOk result (λ is_told. is_told ≡ true → AreMade terms.new rule.now.shapes.items all.new.items) }
+    ensures told { IfOk result (λ is_told. is_told ≡ true → (types : ℕ → Term) (term : Term) →
         AreTold terms.old found.now types → IsInstance rule.now types term →
-        AllTold terms.new all.items types)) }
+        AllTold terms.new all.new.items types) }
 {
-    let mut all = Vec::new(alloc);
+    all.clear();
     for place in 0..rule.shapes.len() {
         let Some(shape) = at(rule.shapes.as_slice(), place) else {
-            return Ok(None);
+            return Ok(false);
         };
         let noted = noted_at(found, place);
         let Some(number) = number_of(terms, shape, noted, all.as_slice())? else {
-            return Ok(None);
+            return Ok(false);
         };
         all.push(number)?;
     }
-    Ok(Some(all))
+    Ok(true)
 }
 
 /// Finds the types that stand in the shapes of a rule, where its head is the type of this number. Types that are new are added.
-pub fn find_instance(
-    alloc: Global,
+pub(crate) fn find_instance(
+    instance: &mut Instance,
     terms: &mut Terms,
     rule: &Rule,
     subject: usize,
 ) -> Result<Found, NoMemory>
     ensures keeps { Keeps terms.old terms.new }
     ensures found { IfOk result (λ found. (term : Term) → Stands terms.old subject term →
-        IsFound terms.new rule.now term found) }
+        IsFound terms.new rule.now term instance.new.all.items found) }
 {
-    let Some(found) = match_head(alloc, terms, rule, subject)? else {
+    if !match_head(&*terms, rule, subject, &mut instance.found)? {
         return Ok(Found::Apart);
-    };
-    let Some(all) = complete(alloc, terms, rule, found.as_slice())? else {
-        return Ok(Found::Open);
-    };
-    if subject >= terms.len() {
+    }
+    if !complete(terms, rule, instance.found.as_slice(), &mut instance.all)?
+        || subject >= terms.len()
+    {
         return Ok(Found::Open);
     }
-    match at(all.as_slice(), rule.head) {
-        Some(number) if number == subject => Ok(Found::Types(all)),
+    match at(instance.all.as_slice(), rule.head) {
+        Some(number) if number == subject => Ok(Found::Types),
         Some(_) => Ok(Found::Apart),
         None => Ok(Found::Open),
     }

@@ -26,6 +26,4 @@ mod trying;
 pub use asked::{Asked, Candidate, Candidates};
 pub use delegate::{GoalsDelegate, GoalsOf, LendsGoals};
 pub use goals::Goals;
-pub use instance::{Found, find_instance};
 pub use scout::make_known;
-pub use trying::{Tried, try_rule};

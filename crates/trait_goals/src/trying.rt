@@ -4,14 +4,14 @@ ghost use Rattle.trait_goals.specs.Below.{Keeps, Made, Stands, Term};
 ghost use Rattle.trait_goals.specs.Trying.{AreAsked, AreInside, IsTried};
 
 use crate::asked::{Asked, Candidate};
-use crate::instance::{Found, at, find_instance};
+use crate::instance::{Found, Instance, at, find_instance};
 use search_context::context::NoMemory;
 use std::alloc::Global;
 use trait_rules::{Numbered, Rule, Terms};
 
 /// What became of a rule that was tried for a goal.
 #[derive(Debug, Drop)]
-pub enum Tried {
+pub(crate) enum Tried {
     /// It is none for the goal's type.
     Apart,
     /// It is one, and asks these goals.
@@ -37,7 +37,7 @@ fn ask_clauses(
         AreAsked all.now asked.old asked.new rule.now bound (length rule.now.clauses.items) questions.items)) }
     ensures inside { (made : List Made) → types ≡ length made → AreInside made asked.old → AreInside made asked.new }
 {
-    let mut questions = Vec::new(alloc);
+    let mut questions = Vec::with_capacity(alloc, rule.clauses.len())?;
     for place in 0..rule.clauses.len() {
         let Some(clause) = at(rule.clauses.as_slice(), place) else {
             return Ok(None);
@@ -58,8 +58,9 @@ fn ask_clauses(
 }
 
 /// Tries a rule for a goal. Types and goals that are new are added.
-pub fn try_rule(
+pub(crate) fn try_rule(
     alloc: Global,
+    instance: &mut Instance,
     terms: &mut Terms,
     asked: &mut Numbered<Asked>,
     rule: &Rule,
@@ -71,13 +72,13 @@ pub fn try_rule(
     ensures tried { IfOk result (λ tried. (term : Term) → Stands terms.old goal.subject term →
         IsTried terms.new asked.new rule.now goal.bound term tried) }
 {
-    let all = match find_instance(alloc, terms, rule, goal.subject)? {
+    match find_instance(instance, terms, rule, goal.subject)? {
         Found::Apart => return Ok(Tried::Apart),
         Found::Open => return Ok(Tried::Open),
-        Found::Types(all) => all,
-    };
+        Found::Types => {}
+    }
     let types = terms.len();
-    let asks = ask_clauses(alloc, asked, rule, all.as_slice(), goal.bound, types)?;
+    let asks = ask_clauses(alloc, asked, rule, instance.types(), goal.bound, types)?;
     let Some(questions) = asks else {
         return Ok(Tried::Open);
     };

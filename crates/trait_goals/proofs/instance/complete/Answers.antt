@@ -24,7 +24,7 @@ loop-place-preserved c =
     (subst (λ l. AllTold c.loop-place.terms l types) (sym c.as_slice-in-loop-place.ensures.value) told) shaped noted)
 
 pub returns-clause-made : goal.returns-clause-made
-returns-clause-made c =
+returns-clause-made c = λ told.
     all_made c.args.terms.now c.loop-place.terms c.args.rule.now c.args.found.now c.loop-place.place _
     c.loop-place.invariant
     (omega arith)

@@ -13,7 +13,8 @@ returns-in-Apart-clause-inside c = inside_more _ _ _ c.find_instance.ensures.kee
 
 pub returns-in-Apart-clause-tried : goal.returns-in-Apart-clause-tried
 returns-in-Apart-clause-tried c = λ term stands.
-    subst (λ f. IsFound c.find_instance.new.terms c.args.rule.now term f) c.in-Apart.is
+    subst (λ f. IsFound c.find_instance.new.terms c.args.rule.now term c.find_instance.new.instance.all.items f)
+    c.in-Apart.is
     (c.in_ok-find_instance.ensures.found term stands)
 
 pub returns-in-Open-clause-inside : goal.returns-in-Open-clause-inside
@@ -38,10 +39,11 @@ returns-clause-inside c = λ h.
 pub returns-clause-tried : goal.returns-clause-tried
 returns-clause-tried c = λ term stands.
     candidate_by c.find_instance.new.terms c.args.asked.now c.ask_clauses.new.asked c.args.rule.now c.args.goal.bound
-    term c.in-Types.all.items
+    term c.find_instance.new.instance.all.items
     c.in-Some.questions.items
-    (subst (λ f. IsFound c.find_instance.new.terms c.args.rule.now term f) c.in-Types.is
+    (subst (λ f. IsFound c.find_instance.new.terms c.args.rule.now term c.find_instance.new.instance.all.items f)
+    c.in-Types.is
     (c.in_ok-find_instance.ensures.found term stands))
     (subst (λ l. AreAsked l c.args.asked.now c.ask_clauses.new.asked c.args.rule.now c.args.goal.bound
-    (length c.args.rule.now.clauses.items) c.in-Some.questions.items) c.as_slice.ensures.value (some_so _ _ _
+    (length c.args.rule.now.clauses.items) c.in-Some.questions.items) c.types.ensures (some_so _ _ _
     c.in-Some.is c.in_ok-asks.ensures.asked))
