@@ -67,7 +67,8 @@ pub(crate) fn find_candidates(
     let Some(constructor) = terms.outermost(goal.subject) else {
         return Ok(None);
     };
-    let mut all = Vec::new(alloc);
+    // Most goals have one.
+    let mut all = Vec::with_capacity(alloc, 1)?;
     for place in 0..usize::MAX {
         let Some(given) = rules.rule_at(goal.bound, constructor, place) else {
             return Ok(Some(Candidates { all }));

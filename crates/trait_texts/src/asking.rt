@@ -9,17 +9,18 @@ use crate::refusal::{Problem, Stop, push};
 use std::alloc::Global;
 use std::marker::Model;
 
-// A question, or a call of a function.
-#[derive(Drop)]
+// A question, or the call of this number.
+#[derive(Clone, Copy)]
 enum Pending {
     Question(Question),
-    Call(Call),
+    Call(usize),
 }
 
 /// Functions, and questions and calls in the order of the text.
 #[derive(Drop)]
 pub(crate) struct Asking {
     functions: Vec<Function>,
+    calls: Vec<Call>,
     pending: Vec<Pending>,
 }
 
@@ -35,6 +36,7 @@ impl Asking {
     pub(crate) fn new(alloc: Global) -> Asking {
         Asking {
             functions: Vec::new(alloc),
+            calls: Vec::new(alloc),
             pending: Vec::new(alloc),
         }
     }
@@ -60,7 +62,9 @@ impl Asking {
 
     /// A function is called.
     pub(crate) fn call(&mut self, call: Call) -> Result<(), Stop> {
-        push(&mut self.pending, Pending::Call(call))
+        let number = self.calls.len();
+        push(&mut self.calls, call)?;
+        push(&mut self.pending, Pending::Call(number))
     }
 
     /// Asks all that was read, in its order.
@@ -73,20 +77,21 @@ impl Asking {
         for pending in self.pending.iter() {
             match pending {
                 Pending::Question(question) => program.ask(*question)?,
-                Pending::Call(call) => self.ask_call(alloc, lexicon, program, call)?,
+                Pending::Call(number) => self.ask_call(alloc, lexicon, program, *number)?,
             }
         }
         Ok(())
     }
 
-    // Asks what the call does.
+    // Asks what the call of this number does.
     fn ask_call(
         &self,
         alloc: Global,
         lexicon: &Lexicon,
         program: &mut Program,
-        call: &Call,
+        number: usize,
     ) -> Result<(), Stop> {
+        let call = self.calls.get(number).ok_or(Stop::Memory)?;
         let function = self.function(lexicon, call.word)?;
         let arguments = arguments_of(alloc, &*program, function, call)?;
         function.ask(alloc, program, arguments.as_slice(), call.given.as_slice())

@@ -7,7 +7,7 @@ use crate::names::Names;
 use crate::reader::Reader;
 use crate::refusal::{Problem, ReadFault, Refusal, Stop};
 use crate::spelling::Spelling;
-use crate::token::{Token, add_words};
+use crate::token::find_word;
 use std::alloc::Global;
 use trait_rules::{Rules, Terms};
 
@@ -50,109 +50,70 @@ pub fn read<'a>(
     ensures questions { IfOk result (λ told.
         AreAsked (length told.rules.traits.items) (length told.terms) told.questions.items) }
 {
-    let mut tokens = Vec::new(alloc);
-    match read_words(alloc, sources, as_rustc, &mut tokens) {
+    match read_sources(alloc, sources, as_rustc) {
         Ok(told) => Ok(told),
         Err(Stop::Memory) => Err(ReadFault::Memory),
-        Err(Stop::Refused(place, problem)) => Err(ReadFault::Refused(refusal_of(
-            sources,
-            tokens.as_slice(),
-            place,
-            problem,
-        ))),
+        Err(Stop::Refused(place, problem)) => {
+            Err(ReadFault::Refused(refusal_of(sources, place, problem)))
+        }
     }
 }
 
-// The same. The words of all texts are left.
-fn read_words<'a>(
+fn read_sources<'a>(
     alloc: Global,
     sources: &[Source<'a>],
     as_rustc: bool,
-    tokens: &mut Vec<Token<'a>>,
 ) -> Result<Declarations<'a>, Stop>
     ensures rules { IfOk result (λ told. AreSound told.rules) }
     ensures questions { IfOk result (λ told.
         AreAsked (length told.rules.traits.items) (length told.terms) told.questions.items) }
 {
-    let names = split_texts(alloc, sources, tokens)?;
+    let names = Names::new(alloc)?;
     let mut reader = Reader::new(alloc, names.len(), as_rustc)?;
-    let told = read_named(alloc, &mut reader, tokens.as_slice(), sources.len(), names);
+    let told = read_named(alloc, &mut reader, sources, names);
     // All its parts at once: a proof that they are let go is long where it is made of one for each.
     drop(reader);
     told
 }
 
-// The same of words which have these names.
+// The same where nothing is known but these names.
 fn read_named<'a>(
     alloc: Global,
     reader: &mut Reader,
-    tokens: &[Token<'_>],
-    count: usize,
-    names: Vec<&'a [u8]>,
+    sources: &[Source<'a>],
+    names: Names<'a>,
 ) -> Result<Declarations<'a>, Stop>
     ensures rules { IfOk result (λ told. AreSound told.rules) }
     ensures questions { IfOk result (λ told.
         AreAsked (length told.rules.traits.items) (length told.terms) told.questions.items) }
 {
-    let depth = read_texts(alloc, reader, tokens, count)?;
+    let mut machine = Machine::new(alloc, names);
+    for source in sources {
+        machine.read_text(reader, source.text)?;
+    }
+    reader.finish()?;
+    let (names, depth) = machine.told();
     reader.told(names, depth)
 }
 
-// Adds the words of the texts, and returns their names.
-fn split_texts<'a>(
-    alloc: Global,
-    sources: &[Source<'a>],
-    tokens: &mut Vec<Token<'a>>,
-) -> Result<Vec<&'a [u8]>, Stop> {
-    let mut names = Names::new(alloc)?;
-    add_texts(&mut names, tokens, sources)?;
-    Ok(names.into_texts())
-}
-
-fn add_texts<'a>(
-    names: &mut Names<'a>,
-    tokens: &mut Vec<Token<'a>>,
-    sources: &[Source<'a>],
-) -> Result<(), Stop> {
-    for (file, source) in sources.iter().enumerate() {
-        add_words(names, tokens, file, source.text)?;
-    }
-    Ok(())
-}
-
-// Reads the words of so many texts, and returns the limit on depth.
-fn read_texts(
-    alloc: Global,
-    reader: &mut Reader,
-    tokens: &[Token<'_>],
-    count: usize,
-) -> Result<usize, Stop> {
-    let mut machine = Machine::new(alloc, tokens);
-    for _ in 0..count {
-        machine.read_text(reader)?;
-    }
-    reader.finish()?;
-    Ok(machine.depth)
-}
-
-// What is wrong with the word at this place.
-fn refusal_of<'a>(
-    sources: &[Source<'a>],
-    tokens: &[Token<'a>],
-    place: usize,
-    problem: Problem,
-) -> Refusal<'a> {
+// What is wrong with the word at this place among those of all texts.
+fn refusal_of<'a>(sources: &[Source<'a>], place: usize, problem: Problem) -> Refusal<'a> {
     let mut refusal = Refusal {
         file: b"",
         line: 0,
         word: b"",
         problem,
     };
-    if let Some(token) = tokens.get(place) {
-        refusal.line = token.place.line;
-        refusal.word = token.text;
-        if let Some(source) = sources.get(token.place.file) {
-            refusal.file = source.name;
+    let mut left = place;
+    for source in sources {
+        match find_word(source.text, left) {
+            Ok((line, word)) => {
+                refusal.file = source.name;
+                refusal.line = line;
+                refusal.word = word;
+                break;
+            }
+            Err(count) => left = left.saturating_sub(count),
         }
     }
     refusal

@@ -117,6 +117,14 @@ impl Lexicon {
         self.meanings.get(name).copied().unwrap_or(NOTHING)
     }
 
+    /// There is a name of this number, and there are those of smaller ones.
+    pub(crate) fn add_name(&mut self, name: usize) -> Result<(), Stop> {
+        for _ in self.meanings.len()..name.saturating_add(1) {
+            push(&mut self.meanings, NOTHING)?;
+        }
+        Ok(())
+    }
+
     /// The name means this from now on.
     pub(crate) fn set(&mut self, name: usize, meaning: Meaning) {
         if let Some(known) = self.meanings.get_mut(name) {
@@ -222,9 +230,12 @@ impl Lexicon {
         }
     }
 
-    /// The word names a type that has so many arguments there.
+    /// The word names a type that has so many arguments there. It may be declared later.
     pub(crate) fn note_use(&mut self, word: Word, arguments: usize) -> Result<(), Stop> {
-        push(&mut self.uses, Use { word, arguments })
+        match self.meanings.get(word.name) {
+            Some(known) if known.arguments == Some(arguments) => Ok(()),
+            _ => push(&mut self.uses, Use { word, arguments }),
+        }
     }
 
     /// The type of this name has this constructor.

@@ -2,10 +2,11 @@
 
 use crate::bound_grammar::rows_of;
 use crate::lexicon::Word;
+use crate::names::{NEVER, Names};
 use crate::reader::Reader;
 use crate::refusal::{Problem, Stop};
 use crate::step::{Part, Step};
-use crate::token::{Kind, Token};
+use crate::token::{Kind, Token, Words};
 use std::alloc::Global;
 
 /// What goals a question may nest if no text says so.
@@ -14,35 +15,74 @@ const DEPTH: usize = 128;
 /// The most digits that a limit has.
 const DIGITS: usize = 9;
 
-/// A place among words, and the steps to take from there.
+/// A place in a text.
+#[derive(Clone, Copy)]
+struct Place<'a> {
+    /// The word that stands here.
+    token: Token<'a>,
+    /// What stands behind it.
+    behind: Words<'a>,
+    /// How many words are passed, with those of other texts and their ends.
+    count: usize,
+    /// The name of the one that was passed last.
+    name: usize,
+}
+
+/// A place in a text, and the steps to take from there.
 #[derive(Drop)]
 pub(crate) struct Machine<'a> {
-    tokens: &'a [Token<'a>],
-    at: usize,
+    names: Names<'a>,
+    at: Place<'a>,
+    // The place that was kept.
+    mark: Place<'a>,
     steps: &'static [Step],
     // The steps behind these, the last ones first.
     later: Vec<&'static [Step]>,
-    // The place that was kept.
-    mark: usize,
     /// The last limit on nested goals that was read.
-    pub(crate) depth: usize,
+    depth: usize,
 }
 
 impl<'a> Machine<'a> {
-    /// The place before the first word.
-    pub(crate) fn new(alloc: Global, tokens: &'a [Token<'a>]) -> Machine<'a> {
+    /// The place before the first text. Words get these names, and new ones.
+    pub(crate) fn new(alloc: Global, names: Names<'a>) -> Machine<'a> {
+        let nowhere = Place {
+            token: Token {
+                text: b"",
+                kind: Kind::End,
+                name: NEVER,
+            },
+            behind: Words::of(b""),
+            count: 0,
+            name: NEVER,
+        };
         Machine {
-            tokens,
-            at: 0,
+            names,
+            at: nowhere,
+            mark: nowhere,
             steps: &[],
             later: Vec::new(alloc),
-            mark: 0,
             depth: DEPTH,
         }
     }
 
+    /// The names, and the limit on nested goals.
+    pub(crate) fn told(self) -> (Vec<&'a [u8]>, usize) {
+        let Machine {
+            names,
+            at: _,
+            mark: _,
+            steps: _,
+            later,
+            depth,
+        } = self;
+        drop(later);
+        (names.into_texts(), depth)
+    }
+
     /// Reads a text to its end.
-    pub(crate) fn read_text(&mut self, reader: &mut Reader) -> Result<(), Stop> {
+    pub(crate) fn read_text(&mut self, reader: &mut Reader, text: &'a [u8]) -> Result<(), Stop> {
+        self.at.behind = Words::of(text);
+        self.read_word(reader)?;
         self.choose(Part::Items)?;
         for _ in 0..u64::MAX {
             match self.next_step() {
@@ -67,13 +107,20 @@ impl<'a> Machine<'a> {
 
     fn take(&mut self, reader: &mut Reader, step: Step) -> Result<(), Stop> {
         match step {
-            Step::Pass => self.pass_if(true, Problem::NoItem),
+            Step::Pass => self.pass(reader),
             Step::Word(word) => {
-                self.pass_if(self.text() == word.as_bytes(), Problem::Expected(word))
+                let is_right = self.text() == word.as_bytes();
+                self.pass_if(reader, is_right, Problem::Expected(word))
             }
-            Step::Name => self.pass_if(matches!(self.kind(), Kind::Name), Problem::NoName),
-            Step::Number => self.pass_if(matches!(self.kind(), Kind::Number), Problem::NoNumber),
-            Step::Limit => self.read_limit(),
+            Step::Name => {
+                let is_right = matches!(self.at.token.kind, Kind::Name);
+                self.pass_if(reader, is_right, Problem::NoName)
+            }
+            Step::Number => {
+                let is_right = matches!(self.at.token.kind, Kind::Number);
+                self.pass_if(reader, is_right, Problem::NoNumber)
+            }
+            Step::Limit => self.read_limit(reader),
             Step::Mark => {
                 self.mark = self.at;
                 Ok(())
@@ -83,69 +130,66 @@ impl<'a> Machine<'a> {
                 Ok(())
             }
             Step::Go(part) => self.choose(part),
-            Step::If(word, part) => self.choose_if(self.text() == word.as_bytes(), part),
+            Step::If(word, _) if self.text() != word.as_bytes() => Ok(()),
+            Step::If(_, part) => {
+                self.pass(reader)?;
+                self.choose(part)
+            }
             Step::Make(making) => reader.make(making, self.last_word()),
             Step::Do(doing) => reader.act(doing, self.last_word()),
-            Step::Refuse(problem) => self.pass_if(false, problem),
+            Step::Refuse(problem) => Err(self.refused(problem)),
         }
     }
 
     // Passes the word, if it is as it has to be.
-    fn pass_if(&mut self, is_right: bool, problem: Problem) -> Result<(), Stop> {
+    fn pass_if(
+        &mut self,
+        reader: &mut Reader,
+        is_right: bool,
+        problem: Problem,
+    ) -> Result<(), Stop> {
         if !is_right {
             return Err(self.refused(problem));
         }
-        self.at = self.at.saturating_add(1);
-        Ok(())
+        self.pass(reader)
+    }
+
+    fn pass(&mut self, reader: &mut Reader) -> Result<(), Stop> {
+        self.at.count = self.at.count.saturating_add(1);
+        self.at.name = self.at.token.name;
+        self.read_word(reader)
+    }
+
+    // The next word stands here from now on. Its name may be new.
+    fn read_word(&mut self, reader: &mut Reader) -> Result<(), Stop> {
+        self.at.token = self.at.behind.next_token(&mut self.names)?;
+        reader.lexicon.add_name(self.at.token.name)
     }
 
     // The text of the word that stands here.
     fn text(&self) -> &'a [u8] {
-        match self.tokens.get(self.at) {
-            Some(token) => token.text,
-            None => b"",
-        }
-    }
-
-    // What the word is that stands here. Behind the last one is an end.
-    fn kind(&self) -> Kind {
-        match self.tokens.get(self.at) {
-            Some(token) => token.kind,
-            None => Kind::End,
-        }
+        self.at.token.text
     }
 
     // The word that was passed last.
     fn last_word(&self) -> Word {
-        let place = self.at.saturating_sub(1);
-        let name = match self.tokens.get(place) {
-            Some(token) => token.name,
-            None => 0,
-        };
-        Word { name, place }
+        Word {
+            name: self.at.name,
+            place: self.at.count.saturating_sub(1),
+        }
     }
 
     // What is wrong with the word.
     fn refused(&self, problem: Problem) -> Stop {
-        match self.kind() {
-            Kind::OpenComment => Stop::Refused(self.at, Problem::OpenComment),
-            _ => Stop::Refused(self.at, problem),
+        match self.at.token.kind {
+            Kind::OpenComment => Stop::Refused(self.at.count, Problem::OpenComment),
+            _ => Stop::Refused(self.at.count, problem),
         }
-    }
-
-    // Passes the word and takes the steps of the part first, if it is there.
-    fn choose_if(&mut self, is_there: bool, part: Part) -> Result<(), Stop> {
-        if !is_there {
-            return Ok(());
-        }
-        self.at = self.at.saturating_add(1);
-        self.choose(part)
     }
 
     // Takes the steps of the part first.
     fn choose(&mut self, part: Part) -> Result<(), Stop> {
-        let text = self.text();
-        let kind = self.kind();
+        let Token { text, kind, .. } = self.at.token;
         for (when, steps) in rows_of(part) {
             if when.fits(text, kind) {
                 if !self.steps.is_empty() {
@@ -158,10 +202,10 @@ impl<'a> Machine<'a> {
         Err(self.refused(Problem::NoItem))
     }
 
-    fn read_limit(&mut self) -> Result<(), Stop> {
+    fn read_limit(&mut self, reader: &mut Reader) -> Result<(), Stop> {
         let limit = limit_of(self.text());
         self.depth = limit.unwrap_or(DEPTH);
-        self.pass_if(limit.is_some(), Problem::Limit)
+        self.pass_if(reader, limit.is_some(), Problem::Limit)
     }
 }
 

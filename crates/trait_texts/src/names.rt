@@ -94,6 +94,11 @@ impl<'a> Names<'a> {
         self.enter(&[b"Sized"])
     }
 
+    /// How many names there are.
+    pub(crate) fn len(&self) -> usize {
+        self.texts.len()
+    }
+
     /// The number of `Sized`.
     pub(crate) fn sized() -> usize {
         PRIMITIVES.len() + KEYWORDS.len()

@@ -2,7 +2,7 @@
 ghost use Rattle.std.specs.Prelude.{◌≤◌, IfSome, length};
 
 use crate::names::{NEVER, Names};
-use crate::refusal::{Stop, push};
+use crate::refusal::Stop;
 
 /// What a word is.
 #[derive(Clone, Copy)]
@@ -24,21 +24,19 @@ pub(crate) enum Kind {
     End,
 }
 
-/// A line of a file, which are counted from 1 and from 0.
-#[derive(Clone, Copy)]
-pub(crate) struct Place {
-    pub(crate) file: usize,
-    pub(crate) line: usize,
-}
-
 /// A word of a text.
 #[derive(Clone, Copy)]
 pub(crate) struct Token<'a> {
     pub(crate) text: &'a [u8],
-    pub(crate) place: Place,
     pub(crate) kind: Kind,
     /// The number of a name, a keyword or the text of a number; of other words that of `!`.
     pub(crate) name: usize,
+}
+
+/// What is left of a text.
+#[derive(Clone, Copy)]
+pub(crate) struct Words<'a> {
+    rest: &'a [u8],
 }
 
 // Bytes that stand together.
@@ -52,37 +50,70 @@ enum Run {
     Quoted,
 }
 
-// How a text begins: how many bytes of it are of this kind.
-#[derive(Clone, Copy)]
-struct Piece {
-    kind: Kind,
-    length: usize,
+impl<'a> Words<'a> {
+    /// All of the text.
+    pub(crate) fn of(text: &'a [u8]) -> Words<'a> {
+        Words { rest: text }
+    }
+
+    /// Takes the next word. A name that is a keyword is a mark.
+    pub(crate) fn next_token(&mut self, names: &mut Names<'a>) -> Result<Token<'a>, Stop> {
+        let (kind, text) = self.next_word();
+        let mut token = Token {
+            text,
+            kind,
+            name: NEVER,
+        };
+        if let Kind::Name | Kind::Number = kind {
+            token.name = names.number(text)?;
+            if Names::is_keyword(token.name) {
+                token.kind = Kind::Mark;
+            }
+        }
+        Ok(token)
+    }
+
+    // Takes the next word. Behind the last one the text ends, however often that is asked.
+    fn next_word(&mut self) -> (Kind, &'a [u8]) {
+        for _ in 0..u64::MAX {
+            let (kind, length) = first_piece(self.rest);
+            let Some((word, behind)) = self.rest.split_at_checked(length) else {
+                break;
+            };
+            self.rest = without_blank(behind);
+            if !matches!(kind, Kind::Blank) {
+                return (kind, word);
+            }
+        }
+        (Kind::End, b"")
+    }
 }
 
-/// Adds the words of the text of a file, and one for its end.
-pub(crate) fn add_words<'a>(
-    names: &mut Names<'a>,
-    tokens: &mut Vec<Token<'a>>,
-    file: usize,
-    text: &'a [u8],
-) -> Result<(), Stop> {
-    let mut rest = text;
-    let mut place = Place { file, line: 1 };
-    for _ in 0..text.len() {
-        let piece = first_piece(rest);
-        let Some((word, behind)) = rest.split_at_checked(piece.length) else {
-            break;
-        };
-        match piece.kind {
-            Kind::Blank => place.line = line_behind(word, place.line),
-            kind => add_word(names, tokens, kind, word, place)?,
+/// The line and the word of this number in a text, both counted, from 1 and from 0; how many words there are with the end, if they
+/// are no more.
+pub(crate) fn find_word(text: &[u8], number: usize) -> Result<(usize, &[u8]), usize> {
+    let mut words = Words::of(text);
+    for count in 0..usize::MAX {
+        let (kind, word) = words.next_word();
+        if count == number {
+            return Ok((line_behind(text, words.rest.len()), word));
         }
-        if behind.is_empty() || matches!(piece.kind, Kind::OpenComment) {
-            break;
+        if let Kind::End = kind {
+            return Err(count + 1);
         }
-        rest = without_blank(behind);
     }
-    add_word(names, tokens, Kind::End, b"", place)
+    Err(usize::MAX)
+}
+
+// The line that is reached where so many bytes are left of a text. No word goes on in another line.
+fn line_behind(text: &[u8], left: usize) -> usize {
+    let mut line = 1usize;
+    for byte in text.iter().take(text.len().saturating_sub(left)) {
+        if *byte == b'\n' {
+            line = line.saturating_add(1);
+        }
+    }
+    line
 }
 
 // What is left behind the one blank that most words have behind them.
@@ -93,49 +124,12 @@ fn without_blank(rest: &[u8]) -> &[u8] {
     }
 }
 
-// Adds a word. A name that is a keyword is a mark.
-fn add_word<'a>(
-    names: &mut Names<'a>,
-    tokens: &mut Vec<Token<'a>>,
-    kind: Kind,
-    text: &'a [u8],
-    place: Place,
-) -> Result<(), Stop> {
-    let mut token = Token {
-        text,
-        place,
-        kind,
-        name: NEVER,
-    };
-    if let Kind::Name | Kind::Number = kind {
-        token.name = names.number(text)?;
-        if Names::is_keyword(token.name) {
-            token.kind = Kind::Mark;
-        }
-    }
-    push(tokens, token)
-}
-
-// The line that is reached behind a text which begins in this line.
-fn line_behind(text: &[u8], line: usize) -> usize {
-    let mut reached = line;
-    for byte in text {
-        if *byte == b'\n' {
-            reached = reached.saturating_add(1);
-        }
-    }
-    reached
-}
-
-// What the text begins with.
-fn first_piece(rest: &[u8]) -> Piece {
+// What the text begins with, and how many bytes of it are of this kind.
+fn first_piece(rest: &[u8]) -> (Kind, usize) {
     let Some((first, behind)) = rest.split_first() else {
-        return Piece {
-            kind: Kind::Blank,
-            length: 0,
-        };
+        return (Kind::End, 0);
     };
-    let (kind, length) = match *first {
+    match *first {
         b'a'..=b'z' | b'A'..=b'Z' | b'_' => (Kind::Name, 1 + run_length(behind, Run::Name)),
         b' ' | b'\n' | b'\t' | b'\r' | 11 | 12 => (Kind::Blank, 1 + run_length(behind, Run::Blank)),
         b'0'..=b'9' => (Kind::Number, 1 + run_length(behind, Run::Name)),
@@ -146,8 +140,7 @@ fn first_piece(rest: &[u8]) -> Piece {
         b'"' => quoted(behind),
         128.. => (Kind::Mark, 1 + run_length(behind, Run::Foreign)),
         _ => (Kind::Mark, 1),
-    };
-    Piece { kind, length }
+    }
 }
 
 // A comment, or a mark.
