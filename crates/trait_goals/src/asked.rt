@@ -1,6 +1,10 @@
 //! What goals ask, and what they are asked by.
 ghost use Rattle.std.specs.Prelude.{◌+◌, ◌*◌, ◌%◌, ◌<◌, ◌^◌, vec_len};
+ghost use Rattle.smallvec.specs.SmallVec.{small_vec_len};
 
+use smallvec::SmallVec;
+use std::alloc::Global;
+use std::default::MadeWith;
 use std::hash::{Hash, Hasher};
 use trait_rules::Key;
 
@@ -39,9 +43,18 @@ pub struct Candidate {
     ghost few: { vec_len questions + 1 < 2 ^ 32 },
 }
 
-/// The candidates of a goal, of which there are fewer than 2 to the power 32.
+// A goal's one candidate stands beside its length.
+impl MadeWith<Global> for Candidate {
+    fn made_with(alloc: Global) -> Candidate {
+        Candidate {
+            questions: Vec::new(alloc),
+        }
+    }
+}
+
+/// The candidates of a goal, of which there are fewer than 2 to the power 32. Most goals have one.
 #[derive(Debug, Drop)]
 pub struct Candidates {
-    pub all: Vec<Candidate>,
-    ghost few: { vec_len all + 1 < 2 ^ 32 },
+    pub all: SmallVec<Candidate, 1>,
+    ghost few: { small_vec_len all + 1 < 2 ^ 32 },
 }

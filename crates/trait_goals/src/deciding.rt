@@ -21,7 +21,7 @@ fn questions_of(alloc: Global, known: Option<&Candidates>) -> Result<Vec<usize>,
     let Some(known) = known else {
         return Ok(questions);
     };
-    for candidate in &known.all {
+    for candidate in known.all.iter() {
         questions.extend_from_slice(candidate.questions.as_slice())?;
     }
     Ok(questions)

@@ -9,6 +9,7 @@ use crate::asked::{Asked, Candidate, Candidates};
 use crate::instance::Instance;
 use crate::trying::{Tried, try_rule};
 use search_context::context::NoMemory;
+use smallvec::SmallVec;
 use std::alloc::Global;
 use trait_rules::{Numbered, Rule, Rules, Terms};
 
@@ -23,7 +24,7 @@ fn try_next(
     asked: &mut Numbered<Asked>,
     given: Option<&Rule>,
     goal: Asked,
-    all: &mut Vec<Candidate>,
+    all: &mut SmallVec<Candidate, 1>,
 ) -> Result<bool, NoMemory>
     ensures made { Keeps terms.old terms.new }
     ensures asked { Keeps asked.old asked.new }
@@ -67,8 +68,7 @@ pub(crate) fn find_candidates(
     let Some(constructor) = terms.outermost(goal.subject) else {
         return Ok(None);
     };
-    // Most goals have one.
-    let mut all = Vec::with_capacity(alloc, 1)?;
+    let mut all = SmallVec::new(alloc);
     for place in 0..usize::MAX {
         let Some(given) = rules.rule_at(goal.bound, constructor, place) else {
             return Ok(Some(Candidates { all }));

@@ -36,7 +36,7 @@ pub fn all_goals(
     ensures asked { IfOk result (λ numbers.
         AreGoalsOf goals.old.made goals.new questions.now numbers.items) }
 {
-    let mut asked = Vec::new(alloc);
+    let mut asked = Vec::with_capacity(alloc, questions.len())?;
     for question in questions {
         let goal = goals.goal(Asked {
             subject: question.subject,

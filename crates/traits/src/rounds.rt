@@ -55,7 +55,7 @@ fn ask_all<L: LendsGoals>(
     ensures count { IfOk result (λ round. length round.came.items ≡ length asked.now) }
 {
     let mut answers = Answers::<L>::new(alloc, lender);
-    let mut came = Vec::new(alloc);
+    let mut came = Vec::with_capacity(alloc, asked.len())?;
     for goal in asked {
         let answer = ask(&mut answers, *goal, depth);
         came.push(answer)?;

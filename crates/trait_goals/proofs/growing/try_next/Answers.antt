@@ -22,6 +22,6 @@ returns-in_ok-push-in-By-clause-tried c = λ yes term stands.
     (lists_in c.push.new.self.items)) (sym c.in-Some.is)
     (by_next made asked c.in-Some.rule.now c.args.goal.bound term c.args.all.now.items c.push.new.self.items
     c.in-By.candidate
-    c.in_ok-push-in-By.ensures.items
+    c.in_ok-push-in-By.ensures.ok
     (subst (λ t. IsTried made asked c.in-Some.rule.now c.args.goal.bound term t) c.in-By.is
     (c.in_ok-try_rule.ensures.tried term stands)))

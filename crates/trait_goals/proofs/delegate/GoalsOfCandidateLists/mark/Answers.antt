@@ -15,7 +15,7 @@ returns-in_ok-_candidate-in-Some-clause-value g c =
     let h = c.in-Some.ensures in let t = c.goals-goals.ensures in search rules in
     let found = c.in_ok-_candidate-in-Some.ensures.lookup in
     let candidate = c.in_ok-_candidate-in-Some._candidate.now in
-    let at = subst (λ all. slice_get all c.args.candidate ≡ Some candidate) c.deref.ensures.value
+    let at = subst (λ all. slice_get all c.args.candidate ≡ Some candidate) c.deref.ensures
     (slice_get-get_or c.deref.result.now c.args.candidate candidate found.3.0 ∙ ap Some (sym found.1)) in
     not_marked (g.L.LendsGoals.table_of c.args.self.lender) c.args.goal c.args.candidate c.in-Some.known.now
     candidate e at
