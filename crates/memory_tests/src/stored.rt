@@ -86,11 +86,18 @@ where
 {
     match place {
         (goal, Some(depth)) => cache.overflow_at(goal, depth),
-        (goal, None) => match cache.success_of(goal) {
-            Some((outcome, _)) => Some(outcome),
-            None => None,
-        },
+        (goal, None) => success_in::<X, D>(cache, goal),
     }
+}
+
+/// The success that the cache has of the goal.
+fn success_in<X, D>(cache: &GlobalCache<D>, goal: Goal) -> Option<Outcome>
+where
+    X: Cx<Input = Goal, Result = Outcome>,
+    D: Delegate<Cx = X>,
+{
+    let (outcome, _) = cache.success_of(goal)?;
+    Some(outcome)
 }
 
 /// The goals that the table's questions lead to.
