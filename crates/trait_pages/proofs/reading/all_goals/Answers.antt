@@ -9,7 +9,7 @@ use Rattle.trait_pages.proofs.reading.all_goals.Goals as goal
 pub loop-question-init : goal.loop-question-init
 loop-question-init c = record {
   kept = extends_same c.args.goals.now;
-  are = subst (AreGoalsOf c.args.goals.now.made c.args.goals.now []) (sym c.new-asked.ensures.items)
+  are = subst (AreGoalsOf c.args.goals.now.made c.args.goals.now []) (sym c.in_ok-asked.ensures.items)
       (no_goals c.args.goals.now.made c.args.goals.now [] refl);
 }
 
