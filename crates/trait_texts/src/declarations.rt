@@ -18,6 +18,15 @@ pub struct Source<'a> {
     pub text: &'a [u8],
 }
 
+/// How texts are read.
+#[derive(Clone, Copy)]
+pub struct Options {
+    /// A trait that is not coinductive asks by steps of unknown kind, else by inductive ones.
+    pub as_rustc: bool,
+    /// Impls are asked about: whether their types implement the supertraits of their traits.
+    pub definitions: bool,
+}
+
 /// Whether the type implements the trait, both by their numbers.
 #[derive(Clone, Copy)]
 pub struct Question {
@@ -31,27 +40,28 @@ pub struct Declarations<'a> {
     pub rules: Rules,
     /// The types of the questions, with their parts.
     pub terms: Terms,
-    /// The questions, in the order of the texts.
+    /// The questions of the texts, in their order, and then those about impls.
     pub questions: Vec<Question>,
+    /// How many are about impls.
+    pub definitions: usize,
     /// The last limit on nested goals that was read, or 128.
     pub depth: usize,
     /// How types and traits are written.
     pub spelling: Spelling<'a>,
 }
 
-/// Reads texts one after another, as one program. With `as_rustc` a trait that is not coinductive asks by steps of unknown
-/// kind, else by inductive ones.
+/// Reads texts one after another, as one program.
 pub fn read<'a>(
     alloc: Global,
     sources: &[Source<'a>],
-    as_rustc: bool,
+    options: Options,
 ) -> Result<Declarations<'a>, ReadFault<'a>>
     ensures rules { IfOk result (λ told. AreSound told.rules) }
     ensures questions { IfOk result (λ told.
         AreAsked (length told.rules.traits.items) (length told.terms) told.questions.items) }
 {
     let mut tokens = Vec::new(alloc);
-    match read_words(alloc, sources, as_rustc, &mut tokens) {
+    match read_words(alloc, sources, options, &mut tokens) {
         Ok(told) => Ok(told),
         Err(Stop::Memory) => Err(ReadFault::Memory),
         Err(Stop::Refused(place, problem)) => Err(ReadFault::Refused(refusal_of(
@@ -67,7 +77,7 @@ pub fn read<'a>(
 fn read_words<'a>(
     alloc: Global,
     sources: &[Source<'a>],
-    as_rustc: bool,
+    options: Options,
     tokens: &mut Vec<Token<'a>>,
 ) -> Result<Declarations<'a>, Stop>
     ensures rules { IfOk result (λ told. AreSound told.rules) }
@@ -75,7 +85,7 @@ fn read_words<'a>(
         AreAsked (length told.rules.traits.items) (length told.terms) told.questions.items) }
 {
     let names = split_texts(alloc, sources, tokens)?;
-    let mut reader = Reader::new(alloc, names.len(), as_rustc)?;
+    let mut reader = Reader::new(alloc, names.len(), options)?;
     let told = read_named(alloc, &mut reader, tokens.as_slice(), sources.len(), names);
     // All its parts at once: a proof that they are let go is long where it is made of one for each.
     drop(reader);
@@ -131,8 +141,19 @@ fn read_texts(
     for _ in 0..count {
         machine.read_text(reader)?;
     }
+    read_definitions(&mut machine, reader)?;
     reader.finish()?;
     Ok(machine.depth)
+}
+
+// Reads the impls again that are asked about.
+fn read_definitions(machine: &mut Machine<'_>, reader: &mut Reader) -> Result<(), Stop> {
+    for number in 0..reader.impls.len() {
+        if let Some(place) = reader.begin_definition(number)? {
+            machine.read_again(reader, place)?;
+        }
+    }
+    Ok(())
 }
 
 // What is wrong with the word at this place.

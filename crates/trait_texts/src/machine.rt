@@ -11,7 +11,7 @@ use std::alloc::Global;
 /// What goals a question may nest if no text says so.
 const DEPTH: usize = 128;
 
-/// The most digits that a limit has.
+/// The most digits that a number has.
 const DIGITS: usize = 9;
 
 /// A place among words, and the steps to take from there.
@@ -43,7 +43,18 @@ impl<'a> Machine<'a> {
 
     /// Reads a text to its end.
     pub(crate) fn read_text(&mut self, reader: &mut Reader) -> Result<(), Stop> {
-        self.choose(Part::Items)?;
+        self.read_part(reader, Part::Items)
+    }
+
+    /// Reads the impl again whose first word stands before this place.
+    pub(crate) fn read_again(&mut self, reader: &mut Reader, place: usize) -> Result<(), Stop> {
+        self.at = place;
+        self.read_part(reader, Part::Definition)
+    }
+
+    // Reads the part, and all that is to be read behind it.
+    fn read_part(&mut self, reader: &mut Reader, part: Part) -> Result<(), Stop> {
+        self.choose(part)?;
         for _ in 0..u64::MAX {
             match self.next_step() {
                 Some(step) => self.take(reader, step)?,
@@ -73,6 +84,7 @@ impl<'a> Machine<'a> {
             }
             Step::Name => self.pass_if(matches!(self.kind(), Kind::Name), Problem::NoName),
             Step::Number => self.pass_if(matches!(self.kind(), Kind::Number), Problem::NoNumber),
+            Step::ImplNumber => self.read_impl_number(reader),
             Step::Limit => self.read_limit(),
             Step::Mark => {
                 self.mark = self.at;
@@ -158,6 +170,12 @@ impl<'a> Machine<'a> {
         Err(self.refused(Problem::NoItem))
     }
 
+    fn read_impl_number(&mut self, reader: &mut Reader) -> Result<(), Stop> {
+        let number = number_of(self.text());
+        reader.named_impl = number.unwrap_or(0);
+        self.pass_if(number.is_some(), Problem::NoNumber)
+    }
+
     fn read_limit(&mut self) -> Result<(), Stop> {
         let limit = limit_of(self.text());
         self.depth = limit.unwrap_or(DEPTH);
@@ -165,11 +183,16 @@ impl<'a> Machine<'a> {
     }
 }
 
-// The number that the digits in quotes say, of which there may be nine.
+// The number that the digits in quotes say.
 fn limit_of(quoted: &[u8]) -> Option<usize> {
     let [b'"', digits @ .., b'"'] = quoted else {
         return None;
     };
+    number_of(digits)
+}
+
+// The number that the digits say, of which there may be nine.
+fn number_of(digits: &[u8]) -> Option<usize> {
     if digits.is_empty() || digits.len() > DIGITS {
         return None;
     }
