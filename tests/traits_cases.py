@@ -207,6 +207,66 @@ ANSWERED = [
     ),
 ]
 
+# Texts, what has to be written of them, and what of their impls behind it.
+DEFINITIONS = [
+    # the supertrait holds by a where-clause, by another impl, or not
+    ("trait A {} trait B: A {} struct S<T>(T); impl<T> B for S<T> where Self: A {}", "", "S<T>: A yes\n"),
+    ("trait A {} trait B: A {} impl B for u8 {} impl A for u8 {}", "", "u8: A yes\n"),
+    ("u8: B? impl B for u8 {} trait B: A {} trait A {} i8: B?", "u8: B yes\ni8: B no\n", "u8: A no\n"),
+    ("trait A {} trait B: A {} impl<T: B> A for T {} impl B for u8 {}", "", "u8: A yes\n"),
+    # for any type
+    (
+        "trait A {} trait B: A {} trait C {} trait D: A {} impl<T: C> A for T {} impl<T: C> B for T {} impl<T> D for T {}",
+        "",
+        "T: A yes\nT: A no\n",
+    ),
+    # by what stands above the trait of a bound
+    (
+        "trait A {} trait B: A {} trait C: D {} trait D: A {} struct S<T>(T); impl<T: A> A for S<T> {} "
+        "impl<T: C> B for T {} impl<T: D, U: C> B for (S<T>, U) {} impl<T, U> B for S<(T, U)> where (T, U): D {}",
+        "",
+        "T: A yes\n(S<T>, U): A no\nS<(T, U)>: A yes\n",
+    ),
+    # equal names of parameters
+    (
+        "trait A {} trait B: A {} struct S<T>(T); struct R<T>(T); impl<T: A> A for S<T> {} impl<T: A> A for R<T> {} "
+        "impl<T: A> B for S<T> {} impl<T> B for R<T> {} impl<U, T: A> B for (S<T>, U) where (S<T>, U): A {} "
+        "fn f<T>() { g::<T>(); g::<S<T>>(); } fn g<T: B>() {}",
+        "T: B no\nS<T>: B no\n",
+        "S<T>: A yes\nR<T>: A no\n(S<T>, U): A yes\n",
+    ),
+    # several bounds in their order, and what has a size
+    (
+        "auto trait Sized {} trait A {} trait B: A + 'static + Sized + A {} impl<T> !Sized for [T] {} impl<'a, T: ?Sized> B "
+        "for &'a T {} impl<T: ?Sized> B for T {} impl<T> B for [T] {} impl<T> B for (T,) where 'static: 'static {}",
+        "",
+        "&T: A no\n&T: Sized no\n&T: A no\nT: A no\nT: Sized no\nT: A no\n[T]: A no\n[T]: Sized no\n[T]: A no\n"
+        "(T,): A no\n(T,): Sized yes\n(T,): A no\n",
+    ),
+    # negative impls, auto traits, and supertraits that are not direct
+    ("trait B {} auto trait A: B {} impl !A for u8 {} impl A for i8 {} impl B for () {} impl<T> A for T where T: B {}", "", "i8: B no\nT: B yes\n"),
+    ("trait A {} trait B: A {} trait C: B {} impl C for u8 {} impl B for u8 {}", "", "u8: B yes\nu8: A no\n"),
+    # where-clauses without a parameter say nothing
+    (
+        "trait A {} trait B: A {} struct S; impl A for S where u8: A {} impl B for S where u8: A, Self: B, [Self; 2]: A {}",
+        "",
+        "S: A no\n",
+    ),
+    # `Self` in where-clauses
+    (
+        "trait A {} trait B: A {} struct S<T>(T); impl<T> A for T where S<T>: A {} "
+        "impl<T> B for S<(T, u8)> where (u8, Self, &Self): A, S<Self>: B, T: A {}",
+        "",
+        "S<(T, u8)>: A yes\n",
+    ),
+    (
+        "trait A {} trait B: A {} impl<T> A for (T,) where ((T,), T): A {} impl<T> B for (T,) where (Self, T): A {} "
+        "impl<T> B for ((T,), T) where (Self,): B {}",
+        "",
+        "(T,): A yes\n((T,), T): A no\n",
+    ),
+]
+
 # What is refused: the text, the line that has to be named, and words of which one has to be.
 REFUSED = [
     ("struct A;\nuse std::rc::Rc;", 2, "use"),
@@ -304,6 +364,12 @@ REFUSED = [
     ("trait A {}\nfn f<T>() {}\nf::T: A?", 3, "T"),
     ("trait A {}\nfn f<T>() { f::<T>(); }\nf::T<u8>: A?", 3, "<"),
     ("trait A {}\nfn f<T>() { f::<T>(); }\nimpl A for\nf::T {}", 4, ":: f"),
+    ("trait A {}\ntrait B: A {}\nimpl<T> B for (T,) {}\nimpl::1::T: A?", 4, "T"),
+    ("trait A {}\nimpl::A for u8 {}", 2, "::"),
+    ("trait A {}\nimpl::1x::T: A?", 2, "1x"),
+    ("trait A {}\n&impl::A: A?", 2, "impl"),
+    ("trait A {}\nimpl::1::1: A?", 2, "1"),
+    ("trait A {}\nimpl A for (u8,\nimpl::1::T) {}", 3, "impl :: 1 T"),
     ("fn f<T>() {\n f::<T<u8>>(); }", 2, "T <"),
     ("fn f<T>() {}\nfn main() {\n f::<u8>()\n f::<u8>() }", 4, "f"),
     ("fn f<T>() {}\nfn main() {\n f::<u8>();\n ; }", 4, ";"),

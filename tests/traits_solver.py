@@ -2,7 +2,7 @@
 """A plain solver beside the program `traits`, which shares nothing with it: a reader of the same texts, and rounds over
 all goals that a question reaches.
 
-    traits_solver.py [--as-rustc] [FILE..]
+    traits_solver.py [--as-rustc] [--definitions] [FILE..]
 
 It prints a line for each question as the program does, but says no cause of a maybe. It refuses what the program
 refuses, with a line `FILE:LINE: WORD: what is wrong` and the status 2.
@@ -55,11 +55,14 @@ class Need(NamedTuple):
 
 
 class Impl(NamedTuple):
-    """What an impl says of the types that its head fits."""
+    """What an impl says of the types that its head fits, its parameters, those that may have no size, and its first word."""
 
     positive: bool
     head: Type
     needs: list
+    parameters: tuple = ()
+    without_size: frozenset = frozenset()
+    token: "Token" = None
 
 
 class Environment(NamedTuple):
@@ -448,7 +451,7 @@ class Reader:
         if self.marked:
             self.refuse("`trait` is expected here")
         if self.take("impl"):
-            return self.impl()
+            return self.impl(self.words[self.at - 1])
         if is_unsafe:
             self.refuse("`impl` or `trait` is expected here")
         if self.take("struct"):
@@ -526,20 +529,21 @@ class Reader:
         self.expect("{", "}")
         self.declare(self.traits, token, Trait(auto, auto or marked, above))
 
-    def impl(self):
+    def impl(self, token):
         needs = self.parameters()
         positive = not self.take("!")
         trait = self.name()
         self.traits_named.append(trait)
         self.expect("for")
         head = self.type_()
-        for name, token in self.params.items():
+        for name, parameter in self.params.items():
             if not has_param(head, name):
-                self.refuse("this parameter does not stand in the type (E0207)", token)
+                self.refuse("this parameter does not stand in the type (E0207)", parameter)
         self.self_type = head
         needs += self.where_clauses()
         self.expect("{", "}")
-        self.impls.append((trait.text, Impl(positive, head, needs)))
+        impl = Impl(positive, head, needs, tuple(self.params), frozenset(self.without_size), token)
+        self.impls.append((trait.text, impl))
 
     def function(self, start):
         token = self.name()
@@ -681,6 +685,16 @@ class Reader:
             of = self.given(function, asked)
             yield from ((Need(put(need.type, of), need.trait), asked) for need in function.needs)
 
+    def definitions(self):
+        """What the supertraits of their traits ask of the types of impls, each with the impl. Parameters are constants there."""
+        for number, (trait, impl) in enumerate(self.impls, 1):
+            if not impl.positive or not self.traits[trait].above:
+                continue
+            of = {name: Type(("constant", name, number)) for name in impl.parameters}
+            self.sized += [type_ for name, type_ in of.items() if name not in impl.without_size]
+            self.assumed += [Need(put(need.type, of), need.trait) for need in impl.needs if has_any_param(need.type)]
+            yield from ((Need(put(impl.head, of), above), impl) for above in self.traits[trait].above)
+
     def given(self, function, asked):
         """What the parameters of a function stand for where it is called. Values have to be of just the types that it takes."""
         token = asked.token
@@ -724,14 +738,16 @@ def put(type_, of):
 class Program:
     """What was read, with types as numbers, of which equal ones have the same."""
 
-    def __init__(self, texts):
-        """Reads texts, each with the name of its file."""
+    def __init__(self, texts, definitions=False):
+        """Reads texts, each with the name of its file, and with `definitions` asks about impls, too."""
         reader = Reader()
         for file, text in texts:
             reader.read(text, file)
         reader.check()
         asked = list(reader.questions())
-        self.questions = [need for need, _ in asked]
+        # The questions about impls stand last, each with its impl.
+        self.defined = list(reader.definitions()) if definitions else []
+        self.questions = [need for need, _ in asked + self.defined]
         # What asks each of them, with where the functions that call stand, and what they call.
         self.asked_by, self.calls_at, self.short_at = [by for _, by in asked], reader.calls_at, reader.short_at
         self.calls = reader.asked
@@ -914,9 +930,10 @@ def read_files(files):
 
 def main():
     sys.setrecursionlimit(20000)
-    as_rustc = "--as-rustc" in sys.argv
+    as_rustc, definitions = "--as-rustc" in sys.argv, "--definitions" in sys.argv
     try:
-        program = Program(read_files([each for each in sys.argv[1:] if each != "--as-rustc"]))
+        files = [each for each in sys.argv[1:] if each not in ("--as-rustc", "--definitions")]
+        program = Program(read_files(files), definitions)
         lines = list(program.lines(as_rustc))
     except (Refused, OSError, RecursionError) as error:
         print(error, file=sys.stderr)

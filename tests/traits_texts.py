@@ -69,8 +69,10 @@ def has_reference(type_, in_function=False):
 class Declarations:
     """Random declarations. For rustc there are no two impls for one type, no type of infinite size, and the like."""
 
-    def __init__(self, chance, for_rustc, most_types=30, most_traits=10, growing=True):
+    def __init__(self, chance, for_rustc, most_types=30, most_traits=10, growing=True, above=0.4):
         self.chance, self.for_rustc, self.growing = chance, for_rustc, growing
+        # How often a trait has a supertrait.
+        self.above = above
         names = [f"T{number}" for number in range(chance.randint(1, most_types))]
         self.types = {name: chance.choice((0, 0, 1, 1, 1, 2)) for name in names}
         kinds = ("plain", "plain", "marked", "auto")
@@ -168,9 +170,12 @@ class Declarations:
             yield f"V{place}({each})" if self.chance.random() < 0.6 else f"V{place} {{ x: {each} }}"
 
     def write_trait(self, name, kind):
+        # For rustc no trait stands above itself.
+        traits = list(self.traits)
+        traits = traits[: traits.index(name)] if self.for_rustc else traits
         above = ""
-        if kind != "auto" and not self.for_rustc and self.chance.random() < 0.4:
-            above = f": {self.chance.choice(list(self.traits))}"
+        if kind != "auto" and traits and self.above and self.chance.random() < self.above:
+            above = f": {self.chance.choice(traits)}"
         lead = {"plain": "", "marked": "#[rustc_coinductive] ", "auto": "auto "}[kind]
         self.lines.append(f"{lead}trait {name}{above} {{}}")
 

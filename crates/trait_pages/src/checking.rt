@@ -15,7 +15,7 @@ use same_rules::are_same_rules;
 use std::alloc::Global;
 use std::io::Write;
 use trait_goals::Goals;
-use trait_texts::{Declarations, Source, Spelling};
+use trait_texts::{Declarations, Options, Source, Spelling};
 use watched_runs::NoProgress;
 
 /// Checks data that this program wrote, by the declarations of these texts: the rules in the data have to be theirs, and the
@@ -23,13 +23,13 @@ use watched_runs::NoProgress;
 pub fn check<W: Write>(
     alloc: Global,
     texts: &[Text<'_>],
-    as_rustc: bool,
+    options: Options,
     file: &str,
     text: &[u8],
     out: &mut W,
 ) -> Result<bool, Stop> {
     let data = read_data(alloc, text)?;
-    let mut goals = goals_named(alloc, &data, texts, as_rustc, file)?;
+    let mut goals = goals_named(alloc, &data, texts, options, file)?;
     compare_rules(alloc, &data, &mut goals)?;
     tell_judgements(alloc, &data, out)
 }
@@ -39,10 +39,10 @@ fn goals_named(
     alloc: Global,
     data: &Data<'_>,
     texts: &[Text<'_>],
-    as_rustc: bool,
+    options: Options,
     file: &str,
 ) -> Result<Goals, Stop> {
-    let declared = read_with_names(alloc, data, texts, as_rustc, file)?;
+    let declared = read_with_names(alloc, data, texts, options, file)?;
     let (goals, spelling) = goals_of(alloc, data, declared)?;
     compare_names(alloc, data, &goals, &spelling)?;
     Ok(goals)
@@ -53,7 +53,7 @@ fn read_with_names<'a>(
     alloc: Global,
     data: &'a Data<'_>,
     texts: &'a [Text<'_>],
-    as_rustc: bool,
+    options: Options,
     file: &'a str,
 ) -> Result<Declarations<'a>, Stop> {
     let mut sources = sources_of(alloc, texts)?;
@@ -61,7 +61,7 @@ fn read_with_names<'a>(
         name: file.as_bytes(),
         text: data.questions.as_slice(),
     })?;
-    declared_in(alloc, sources.as_slice(), as_rustc)
+    declared_in(alloc, sources.as_slice(), options)
 }
 
 // The goals have to be called what the data calls them.
@@ -96,7 +96,7 @@ fn refusal(alloc: Global, reason: &[u8]) -> Stop {
     }
 }
 
-// The goals that the data names, by the questions that stand last.
+// The goals that the data names, by the questions that stand last but for those about impls.
 fn goals_of<'a>(
     alloc: Global,
     data: &Data<'_>,
@@ -106,11 +106,13 @@ fn goals_of<'a>(
         rules,
         terms,
         questions,
+        definitions,
         spelling,
         ..
     } = declared;
     let mut goals = Goals::new(alloc, rules, terms);
-    let before = questions.len().saturating_sub(data.names.len());
+    let own = questions.len().saturating_sub(definitions);
+    let before = own.saturating_sub(data.names.len());
     let questions = questions.as_slice().split_at(before).1;
     let _goals = all_goals(alloc, &mut goals, questions)?;
     Ok((goals, spelling))

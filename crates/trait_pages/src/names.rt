@@ -10,7 +10,8 @@ use trait_texts::Spelling;
 pub struct Names<'a, 'b> {
     pub goals: &'a Goals,
     pub spelling: &'a Spelling<'b>,
-    /// Names can be read as questions: the parameter `T` of the function `f` is called `f::T`, and not `T`, as answers call it.
+    /// Names can be read as questions: the parameter `T` of the function `f` is called `f::T`, and of the second impl `impl::2::T`,
+    /// and not `T`, as answers call it.
     pub are_full: bool,
 }
 

@@ -7,15 +7,15 @@ use crate::stop::Stop;
 use search_context::context::NoMemory;
 use std::alloc::Global;
 use trait_goals::{Asked, Goals};
-use trait_texts::{Declarations, Question, ReadFault, Source, read};
+use trait_texts::{Declarations, Options, Question, ReadFault, Source, read};
 
 /// What the texts declare. Where one of them is refused, the reason has its line and its word.
 pub fn declared_in<'a>(
     alloc: Global,
     sources: &[Source<'a>],
-    as_rustc: bool,
+    options: Options,
 ) -> Result<Declarations<'a>, Stop> {
-    match read(alloc, sources, as_rustc) {
+    match read(alloc, sources, options) {
         Ok(declared) => Ok(declared),
         Err(ReadFault::Memory) => Err(Stop::Memory),
         Err(ReadFault::Refused(refusal)) => {

@@ -111,7 +111,22 @@ const PLAIN_TYPE: &[Row] = &[
     (At("!"), &[Pass, Make(Plain)]),
     (At("fn"), &[Pass, Go(FunctionType)]),
     (At("Self"), &[Pass, Make(Own)]),
+    (At("impl"), &[Mark, Pass, Go(ImplParameter)]),
     (Else, &[Refuse(NoType)]),
+];
+
+// What follows `impl` where that begins a type. In questions, `impl::2::T` is the parameter of the second impl.
+const IMPL_PARAMETER: &[Row] = &[
+    (At("::"), &[Pass, Go(ImplNumbered)]),
+    (Else, &[Back, Refuse(NoType)]),
+];
+
+const IMPL_NUMBERED: &[Row] = &[
+    (
+        AtNumber,
+        &[ImplNumber, Word("::"), Name, Make(ImplConstant)],
+    ),
+    (Else, &[Back, Refuse(NoType)]),
 ];
 
 // A type in parentheses, if no comma follows it, and else a tuple.
@@ -220,6 +235,8 @@ pub(crate) fn rows_of(part: Part) -> &'static [Row] {
         Part::FunctionResult => FUNCTION_RESULT,
         Part::Arguments => ARGUMENTS,
         Part::ArgumentList => ARGUMENT_LIST,
+        Part::ImplParameter => IMPL_PARAMETER,
+        Part::ImplNumbered => IMPL_NUMBERED,
         other => bound_rows(other),
     }
 }

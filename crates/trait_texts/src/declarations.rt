@@ -18,6 +18,15 @@ pub struct Source<'a> {
     pub text: &'a [u8],
 }
 
+/// How texts are read.
+#[derive(Clone, Copy)]
+pub struct Options {
+    /// A trait that is not coinductive asks by steps of unknown kind, else by inductive ones.
+    pub as_rustc: bool,
+    /// Impls are asked about: whether their types implement the supertraits of their traits.
+    pub definitions: bool,
+}
+
 /// Whether the type implements the trait, both by their numbers.
 #[derive(Clone, Copy)]
 pub struct Question {
@@ -31,26 +40,27 @@ pub struct Declarations<'a> {
     pub rules: Rules,
     /// The types of the questions, with their parts.
     pub terms: Terms,
-    /// The questions, in the order of the texts.
+    /// The questions of the texts, in their order, and then those about impls.
     pub questions: Vec<Question>,
+    /// How many are about impls.
+    pub definitions: usize,
     /// The last limit on nested goals that was read, or 128.
     pub depth: usize,
     /// How types and traits are written.
     pub spelling: Spelling<'a>,
 }
 
-/// Reads texts one after another, as one program. With `as_rustc` a trait that is not coinductive asks by steps of unknown
-/// kind, else by inductive ones.
+/// Reads texts one after another, as one program.
 pub fn read<'a>(
     alloc: Global,
     sources: &[Source<'a>],
-    as_rustc: bool,
+    options: Options,
 ) -> Result<Declarations<'a>, ReadFault<'a>>
     ensures rules { IfOk result (λ told. AreSound told.rules) }
     ensures questions { IfOk result (λ told.
         AreAsked (length told.rules.traits.items) (length told.terms) told.questions.items) }
 {
-    match read_sources(alloc, sources, as_rustc) {
+    match read_sources(alloc, sources, options) {
         Ok(told) => Ok(told),
         Err(Stop::Memory) => Err(ReadFault::Memory),
         Err(Stop::Refused(place, problem)) => {
@@ -62,14 +72,14 @@ pub fn read<'a>(
 fn read_sources<'a>(
     alloc: Global,
     sources: &[Source<'a>],
-    as_rustc: bool,
+    options: Options,
 ) -> Result<Declarations<'a>, Stop>
     ensures rules { IfOk result (λ told. AreSound told.rules) }
     ensures questions { IfOk result (λ told.
         AreAsked (length told.rules.traits.items) (length told.terms) told.questions.items) }
 {
     let names = Names::new(alloc)?;
-    let mut reader = Reader::new(alloc, names.len(), as_rustc)?;
+    let mut reader = Reader::new(alloc, names.len(), options)?;
     let told = read_named(alloc, &mut reader, sources, names);
     // All its parts at once: a proof that they are let go is long where it is made of one for each.
     drop(reader);
@@ -91,6 +101,7 @@ fn read_named<'a>(
     for source in sources {
         machine.read_text(reader, source.text)?;
     }
+    machine.read_definitions(reader)?;
     reader.finish()?;
     let (names, depth) = machine.told();
     reader.told(names, depth)

@@ -121,6 +121,22 @@ impl Draft {
         Ok(shape)
     }
 
+    /// The shapes of another draft behind these. Returns the one that has this number there.
+    pub(crate) fn append(&mut self, other: &Draft, number: usize) -> Result<usize, Stop> {
+        let before = self.shapes.len();
+        for shape in other.shapes() {
+            match shape {
+                Shape::Parameter => self.parameter()?,
+                Shape::Constructor(constructor) => self.constructor(*constructor)?,
+                Shape::Applied(shape, argument) => self.applied(
+                    before.saturating_add(*shape),
+                    before.saturating_add(*argument),
+                )?,
+            };
+        }
+        Ok(before.saturating_add(number))
+    }
+
     /// One more clause. Its shape has to be there.
     pub(crate) fn ask(&mut self, shape: usize, bound: Bound) -> Result<(), Stop> {
         if shape >= self.shapes.len() {

@@ -5,7 +5,7 @@ use crate::lexicon::{Lexicon, Word};
 use crate::names::PRIMITIVES;
 use crate::program::Program;
 use crate::refusal::{Problem, Stop, push};
-use crate::spelling::{Form, Spelling};
+use crate::spelling::{Form, Owner, Spelling};
 use std::alloc::Global;
 use std::marker::Model;
 use std::mem;
@@ -19,7 +19,7 @@ pub(crate) struct Forms {
     pub(crate) sets: Numbered<Made>,
     /// What holds of `dyn` types, and what bodies assume.
     pub(crate) facts: Vec<Fact>,
-    // The parameters of functions in their bodies, by their constructors, and those that questions name, with the place.
+    // The parameters that are types of their own, by their constructors, and those that questions name, with the place.
     constants: Vec<usize>,
     named: Vec<(usize, usize)>,
     // The constructors of types that may have no size.
@@ -107,15 +107,15 @@ impl Forms {
         push(&mut self.facts, fact)
     }
 
-    /// The constructor of a parameter of a function in its body.
+    /// The constructor of a parameter that is a type of its own.
     pub(crate) fn declare_constant(
         &mut self,
         alloc: Global,
         program: &mut Program,
-        function: usize,
+        owner: Owner,
         name: usize,
     ) -> Result<usize, Stop> {
-        let constructor = self.constructor(alloc, program, Form::Constant(function, name))?;
+        let constructor = self.constructor(alloc, program, Form::Constant(owner, name))?;
         push(&mut self.constants, constructor)?;
         Ok(constructor)
     }
@@ -125,15 +125,15 @@ impl Forms {
         &mut self,
         alloc: Global,
         program: &mut Program,
-        function: usize,
+        owner: Owner,
         word: Word,
     ) -> Result<usize, Stop> {
-        let constructor = self.constructor(alloc, program, Form::Constant(function, word.name))?;
+        let constructor = self.constructor(alloc, program, Form::Constant(owner, word.name))?;
         push(&mut self.named, (word.place, constructor))?;
         Ok(constructor)
     }
 
-    /// Whether a parameter of a function stands in its body among these shapes.
+    /// Whether a parameter that is a type of its own stands among these shapes.
     pub(crate) fn has_constant(&self, shapes: &[Shape]) -> bool {
         for shape in shapes {
             if let Shape::Constructor(constructor) = shape
@@ -161,7 +161,7 @@ impl Forms {
     /// Whether there are all parameters that questions name.
     pub(crate) fn check(&self, alloc: Global) -> Result<(), Stop> {
         let is_declared = marks_of(alloc, self.forms.len(), self.constants.as_slice())?;
-        check_named(self.named.as_slice(), is_declared.as_slice())
+        check_named(&self.forms, self.named.as_slice(), is_declared.as_slice())
     }
 
     /// How types are written, with these names and the names of traits. No forms are left.
@@ -255,10 +255,18 @@ fn push_plain(
 }
 
 // Whether all constructors that are named, each with its place, are declared.
-fn check_named(named: &[(usize, usize)], is_declared: &[bool]) -> Result<(), Stop> {
+fn check_named(
+    forms: &Numbered<Form>,
+    named: &[(usize, usize)],
+    is_declared: &[bool],
+) -> Result<(), Stop> {
     for (place, constructor) in named {
         if !is_declared.get(*constructor).copied().unwrap_or(false) {
-            return Err(Stop::Refused(*place, Problem::UnknownParameter));
+            let problem = match forms.get(*constructor) {
+                Some(Form::Constant(Owner::Impl(_), _)) => Problem::UnknownImplParameter,
+                _ => Problem::UnknownParameter,
+            };
+            return Err(Stop::Refused(*place, problem));
         }
     }
     Ok(())

@@ -18,6 +18,7 @@ const ITEMS: &[Row] = &[
     (At("unsafe"), &[Pass, Go(Unsafe), Go(Items)]),
     (At("auto"), &[Pass, Go(AfterAuto), Go(Items)]),
     (At("fn"), &[Pass, Go(AfterFn), Go(Items)]),
+    (At("impl"), &[Pass, Go(AfterImpl), Go(Items)]),
     (AtName, QUESTION),
     (At("("), QUESTION),
     (At("["), QUESTION),
@@ -40,7 +41,7 @@ const QUESTION: &[Step] = &[
 
 const ASKING: &[Row] = &[(Else, &[Word(":"), Go(Asked), Do(Ask), Word("?")])];
 
-// `auto` may be a type's name, too, and `fn` may begin a type.
+// `auto` may be a type's name, too, and `fn` and `impl` may begin a type.
 const AFTER_AUTO: &[Row] = &[
     (At("trait"), &[Go(AutoTrait)]),
     (Else, &[Do(BeginQuestion), Go(Arguments), Go(Asking)]),
@@ -49,6 +50,14 @@ const AFTER_AUTO: &[Row] = &[
 const AFTER_FN: &[Row] = &[
     (At("("), &[Do(BeginQuestion), Go(FunctionType), Go(Asking)]),
     (Else, &[Go(Function)]),
+];
+
+const AFTER_IMPL: &[Row] = &[
+    (
+        At("::"),
+        &[Do(BeginQuestion), Mark, Go(ImplParameter), Go(Asking)],
+    ),
+    (Else, &[Go(Impl)]),
 ];
 
 const PUBLIC: &[Row] = &[
@@ -201,6 +210,7 @@ const IMPL: &[Row] = &[(
     Else,
     &[
         Do(BeginItem),
+        Keep,
         Go(Parameters),
         Go(Polarity),
         Name,
@@ -212,6 +222,20 @@ const IMPL: &[Row] = &[(
         Word("{"),
         Word("}"),
         Do(EndImpl),
+    ],
+)];
+
+// What is read of a positive impl again, from behind `impl` on, if it is asked about.
+const DEFINITION: &[Row] = &[(
+    Else,
+    &[
+        Go(Parameters),
+        Name,
+        Do(SetTrait),
+        Word("for"),
+        Go(Type),
+        Do(SetHead),
+        If("where", WhereList),
     ],
 )];
 
@@ -406,6 +430,7 @@ pub(crate) fn item_rows(part: Part) -> &'static [Row] {
     match part {
         Part::Above => ABOVE,
         Part::Impl => IMPL,
+        Part::Definition => DEFINITION,
         Part::Polarity => POLARITY,
         Part::StructFields => STRUCT_FIELDS,
         Part::StructBody => STRUCT_BODY,
@@ -447,6 +472,7 @@ fn text_rows(part: Part) -> &'static [Row] {
         Part::Asking => ASKING,
         Part::AfterAuto => AFTER_AUTO,
         Part::AfterFn => AFTER_FN,
+        Part::AfterImpl => AFTER_IMPL,
         Part::Public => PUBLIC,
         Part::PublicItem => PUBLIC_ITEM,
         Part::Unsafe => UNSAFE,

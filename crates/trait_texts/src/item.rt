@@ -4,6 +4,7 @@ use crate::calls::Given;
 use crate::draft::Draft;
 use crate::lexicon::Word;
 use crate::refusal::{Problem, Stop};
+use crate::spelling::Owner;
 use std::alloc::Global;
 
 /// What is read, and so what bounds say.
@@ -14,8 +15,9 @@ pub(crate) enum Role {
     Type,
     /// An impl, or the signature of a function, which needs what its bounds say.
     Needs,
-    /// A function with something in its body, which assumes what its bounds say.
-    Body,
+    /// A function with something in its body, or an impl that is asked about: it assumes what its bounds say, and its
+    /// parameters are types of their own.
+    Body(Owner),
 }
 
 /// The item or the question that is read.
@@ -29,8 +31,9 @@ pub(crate) struct Item {
     pub(crate) values: Vec<usize>,
     /// The values that a call has been given.
     pub(crate) given: Vec<Given>,
-    /// The shape of `Self`.
+    /// The shape of `Self`. It is one of the draft, and of `head` where the impl is asked about.
     pub(crate) own: Option<usize>,
+    pub(crate) head: Draft,
     /// That of which bounds are read, and the place of its last word.
     pub(crate) subject: usize,
     pub(crate) subject_place: usize,
@@ -50,6 +53,7 @@ impl Item {
             values: Vec::new(alloc),
             given: Vec::new(alloc),
             own: None,
+            head: Draft::new(alloc),
             subject: 0,
             subject_place: 0,
             bound: 0,

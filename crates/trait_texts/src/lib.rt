@@ -25,6 +25,6 @@ mod spelling;
 mod step;
 mod token;
 
-pub use declarations::{Declarations, Question, Source, read};
+pub use declarations::{Declarations, Options, Question, Source, read};
 pub use refusal::{Problem, ReadFault, Refusal};
 pub use spelling::Spelling;

@@ -12,7 +12,7 @@ use std::alloc::Global;
 /// What goals a question may nest if no text says so.
 const DEPTH: usize = 128;
 
-/// The most digits that a limit has.
+/// The most digits that a number has.
 const DIGITS: usize = 9;
 
 /// A place in a text.
@@ -35,6 +35,8 @@ pub(crate) struct Machine<'a> {
     at: Place<'a>,
     // The place that was kept.
     mark: Place<'a>,
+    // Those behind the words `impl`, if impls may be asked about.
+    impls: Vec<Place<'a>>,
     steps: &'static [Step],
     // The steps behind these, the last ones first.
     later: Vec<&'static [Step]>,
@@ -59,6 +61,7 @@ impl<'a> Machine<'a> {
             names,
             at: nowhere,
             mark: nowhere,
+            impls: Vec::new(alloc),
             steps: &[],
             later: Vec::new(alloc),
             depth: DEPTH,
@@ -71,10 +74,12 @@ impl<'a> Machine<'a> {
             names,
             at: _,
             mark: _,
+            impls,
             steps: _,
             later,
             depth,
         } = self;
+        drop(impls);
         drop(later);
         (names.into_texts(), depth)
     }
@@ -83,7 +88,23 @@ impl<'a> Machine<'a> {
     pub(crate) fn read_text(&mut self, reader: &mut Reader, text: &'a [u8]) -> Result<(), Stop> {
         self.at.behind = Words::of(text);
         self.read_word(reader)?;
-        self.choose(Part::Items)?;
+        self.read_part(reader, Part::Items)
+    }
+
+    /// Reads the impls again that are asked about.
+    pub(crate) fn read_definitions(&mut self, reader: &mut Reader) -> Result<(), Stop> {
+        for index in 0..self.impls.len() {
+            if reader.begin_definition(index)? {
+                self.at = self.impls.get(index).copied().unwrap_or(self.at);
+                self.read_part(reader, Part::Definition)?;
+            }
+        }
+        Ok(())
+    }
+
+    // Reads the part, and all that is to be read behind it.
+    fn read_part(&mut self, reader: &mut Reader, part: Part) -> Result<(), Stop> {
+        self.choose(part)?;
         for _ in 0..u64::MAX {
             match self.next_step() {
                 Some(step) => self.take(reader, step)?,
@@ -120,7 +141,9 @@ impl<'a> Machine<'a> {
                 let is_right = matches!(self.at.token.kind, Kind::Number);
                 self.pass_if(reader, is_right, Problem::NoNumber)
             }
+            Step::ImplNumber => self.read_impl_number(reader),
             Step::Limit => self.read_limit(reader),
+            Step::Keep => self.keep(reader),
             Step::Mark => {
                 self.mark = self.at;
                 Ok(())
@@ -202,6 +225,20 @@ impl<'a> Machine<'a> {
         Err(self.refused(Problem::NoItem))
     }
 
+    // Keeps the place of an impl, if it may be asked about.
+    fn keep(&mut self, reader: &Reader) -> Result<(), Stop> {
+        if reader.options.definitions {
+            self.impls.push(self.at)?;
+        }
+        Ok(())
+    }
+
+    fn read_impl_number(&mut self, reader: &mut Reader) -> Result<(), Stop> {
+        let number = number_of(self.text());
+        reader.named_impl = number.unwrap_or(0);
+        self.pass_if(reader, number.is_some(), Problem::NoNumber)
+    }
+
     fn read_limit(&mut self, reader: &mut Reader) -> Result<(), Stop> {
         let limit = limit_of(self.text());
         self.depth = limit.unwrap_or(DEPTH);
@@ -209,11 +246,16 @@ impl<'a> Machine<'a> {
     }
 }
 
-// The number that the digits in quotes say, of which there may be nine.
+// The number that the digits in quotes say.
 fn limit_of(quoted: &[u8]) -> Option<usize> {
     let [b'"', digits @ .., b'"'] = quoted else {
         return None;
     };
+    number_of(digits)
+}
+
+// The number that the digits say, of which there may be nine.
+fn number_of(digits: &[u8]) -> Option<usize> {
     if digits.is_empty() || digits.len() > DIGITS {
         return None;
     }

@@ -2,9 +2,11 @@
 ghost use Rattle.std.specs.Prelude.{IfOk, length};
 ghost use Rattle.trait_texts.specs.WellFormed.{AreAsked, AreSound};
 
+mod constants;
+
 use crate::asking::Asking;
 use crate::calls::{Call, Function, Given};
-use crate::declarations::Declarations;
+use crate::declarations::{Declarations, Options};
 use crate::draft::Draft;
 use crate::forms::{Forms, finish_fields};
 use crate::item::{Item, Role};
@@ -13,7 +15,7 @@ use crate::names::{NEVER, Names};
 use crate::open::{Open, Start};
 use crate::program::Program;
 use crate::refusal::{Problem, Stop, push};
-use crate::spelling::Form;
+use crate::spelling::{Form, Owner};
 use crate::step::{Doing, Making};
 use path_kinds::path::PathKind;
 use std::alloc::Global;
@@ -24,28 +26,37 @@ use trait_rules::{Bound, Made};
 #[derive(Drop)]
 pub(crate) struct Reader {
     alloc: Global,
-    as_rustc: bool,
+    pub(crate) options: Options,
     pub(crate) lexicon: Lexicon,
     pub(crate) forms: Forms,
     pub(crate) asking: Asking,
     pub(crate) program: Program,
     open: Open,
     item: Item,
+    /// The impls that may be asked about: their first words, and the traits of positive ones.
+    pub(crate) impls: Vec<(Word, Option<usize>)>,
+    /// The number of the impl whose parameter a question names.
+    pub(crate) named_impl: usize,
+    // How many questions are about impls.
+    definitions: usize,
 }
 
 impl Reader {
     /// So many names, of which nothing is known but what is built in.
-    pub(crate) fn new(alloc: Global, names: usize, as_rustc: bool) -> Result<Reader, Stop> {
+    pub(crate) fn new(alloc: Global, names: usize, options: Options) -> Result<Reader, Stop> {
         let word = Word { name: 0, place: 0 };
         Ok(Reader {
             alloc,
-            as_rustc,
+            options,
             lexicon: Lexicon::new(alloc, names)?,
             forms: Forms::new(alloc),
             asking: Asking::new(alloc),
             program: Program::new(alloc),
             open: Open::new(alloc),
             item: Item::new(alloc, word, Role::Question),
+            impls: Vec::new(alloc),
+            named_impl: 0,
+            definitions: 0,
         })
     }
 
@@ -56,6 +67,9 @@ impl Reader {
             Making::Begin => self.open.begin(word),
             Making::EndPath => self.end_path(),
             Making::Constant => self.name_constant(word),
+            Making::ImplConstant => {
+                self.put_constant(Owner::Impl(self.named_impl), word.place, word)
+            }
             Making::EndParentheses => self.open.leave(),
             Making::EndTuple => self.end_tuple(),
             Making::EndFunction => self.end_function(),
@@ -79,10 +93,14 @@ impl Reader {
     }
 
     fn make_own(&mut self, word: Word) -> Result<(), Stop> {
-        match self.item.own {
-            Some(own) => self.open.put(own),
-            None => Err(Stop::Refused(word.place, Problem::NoSelf)),
-        }
+        let Some(own) = self.item.own else {
+            return Err(Stop::Refused(word.place, Problem::NoSelf));
+        };
+        let shape = match self.item.role {
+            Role::Body(_) => self.item.draft.append(&self.item.head, own)?,
+            _ => own,
+        };
+        self.open.put(shape)
     }
 
     fn add_bound(&mut self, word: Word) -> Result<(), Stop> {
@@ -157,18 +175,6 @@ impl Reader {
         self.open.put(shape)
     }
 
-    // Only a question names the parameter of a function.
-    fn name_constant(&mut self, word: Word) -> Result<(), Stop> {
-        let start = self.open.end()?;
-        let Role::Question = self.item.role else {
-            return Err(Stop::Refused(start.word.place, Problem::NoType));
-        };
-        let constructor = self
-            .forms
-            .name_constant(self.alloc, &mut self.program, start.word.name, word)?;
-        self.put_parameter(Parameter::Constant(constructor))
-    }
-
     fn make_dyn(&mut self, word: Word) -> Result<(), Stop> {
         let traits = self.open.take_bounds(self.alloc);
         if traits.is_empty() {
@@ -194,7 +200,7 @@ impl Reader {
             Doing::BeginQuestion => self.begin_item(word, Role::Question),
             Doing::BeginItem => self.begin_item(word, Role::Needs),
             Doing::BeginType => self.begin_item(word, Role::Type),
-            Doing::BeginBody => self.begin_item(self.item.word, Role::Body),
+            Doing::BeginBody => self.begin_body(),
             Doing::NameItem => {
                 self.item.word = word;
                 Ok(())
@@ -276,8 +282,8 @@ impl Reader {
             return Err(Stop::Refused(word.place, Problem::Twice));
         }
         push(&mut self.item.parameters, word)?;
-        if let Role::Body = self.item.role {
-            return self.add_constant(word);
+        if let Role::Body(owner) = self.item.role {
+            return self.add_constant(owner, word);
         }
         let shape = self.item.draft.parameter()?;
         self.item.subject = shape;
@@ -285,34 +291,12 @@ impl Reader {
             .set_parameter(word.name, Parameter::Shape(shape))
     }
 
-    // In the body of a function a parameter is a type of its own.
-    fn add_constant(&mut self, word: Word) -> Result<(), Stop> {
-        let function = self.item.word.name;
-        let constructor = self
-            .forms
-            .declare_constant(self.alloc, &mut self.program, function, word.name)?;
-        self.item.draft = Draft::new(self.alloc);
-        self.item.subject = self.item.draft.constructor(constructor)?;
-        self.lexicon
-            .set_parameter(word.name, Parameter::Constant(constructor))
-    }
-
-    // Of the parameters of a function in its body each has a size that is not said to have none.
-    fn relax(&mut self) -> Result<(), Stop> {
-        match self.item.draft.outermost(self.item.subject) {
-            Some(constructor) if matches!(self.item.role, Role::Body) => {
-                self.forms.relax(constructor)
-            }
-            _ => Ok(()),
-        }
-    }
-
     // What the bounds of a type say is needed or assumed, or it is nothing.
     fn end_bounds(&mut self) -> Result<(), Stop> {
         let bounds = self.open.take_bounds(self.alloc);
         match self.item.role {
             Role::Needs => self.need(bounds.as_slice()),
-            Role::Body => self.assume(bounds),
+            Role::Body(owner) => self.assume(owner, bounds),
             _ => Ok(()),
         }
     }
@@ -324,18 +308,6 @@ impl Reader {
                 .ask(self.item.subject, Bound::Trait(*bound))?;
         }
         Ok(())
-    }
-
-    // A body may assume nothing that is not about its parameters: it would hold elsewhere, too.
-    fn assume(&mut self, bounds: Vec<usize>) -> Result<(), Stop> {
-        let draft = self.take_draft();
-        if bounds.is_empty() {
-            return Ok(());
-        }
-        if !self.forms.has_constant(draft.shapes()) {
-            return Err(Stop::Refused(self.item.subject_place, Problem::NoParameter));
-        }
-        self.forms.hold(draft, self.item.subject, bounds)
     }
 
     // The draft of the item, in whose place is an empty one.
@@ -360,7 +332,7 @@ impl Reader {
     ) -> Result<(), Stop> {
         let number = self.trait_number(word)?;
         self.lexicon.declare_trait(word, number)?;
-        let kind = match (is_coinductive, self.as_rustc) {
+        let kind = match (is_coinductive, self.options.as_rustc) {
             (true, _) => PathKind::Coinductive,
             (false, true) => PathKind::Unknown,
             (false, false) => PathKind::Inductive,
@@ -373,6 +345,9 @@ impl Reader {
     // Each parameter has to stand in the type that the impl is for.
     fn set_head(&mut self) -> Result<(), Stop> {
         let head = self.open.take()?;
+        if let Role::Body(_) = self.item.role {
+            return self.define(head);
+        }
         let count = self.item.parameters.len();
         let unused = self.item.draft.unused(self.alloc, count, head)?;
         self.item.own = Some(head);
@@ -381,6 +356,10 @@ impl Reader {
 
     fn end_impl(&mut self) -> Result<(), Stop> {
         let head = self.item.own.ok_or(Stop::Memory)?;
+        if self.options.definitions {
+            let bound = self.item.is_positive.then_some(self.item.bound);
+            push(&mut self.impls, (self.item.word, bound))?;
+        }
         let draft = self.take_draft();
         self.program
             .implement(self.item.bound, draft, head, self.item.is_positive)
@@ -391,7 +370,7 @@ impl Reader {
         let shape = self.open.take()?;
         let name = self.open.end()?.word;
         match self.item.role {
-            Role::Body => self.add_known(name, shape),
+            Role::Body(_) => self.add_known(name, shape),
             _ => self.add_taken(name, shape),
         }
     }
@@ -515,14 +494,6 @@ impl Reader {
             .ask_all(self.alloc, &self.lexicon, &mut self.program)
     }
 
-    // The parameters that have a size implement `Sized`, if a trait has that name.
-    fn hold_sized(&mut self) -> Result<(), Stop> {
-        match self.lexicon.meaning(Names::sized()).bound {
-            Some(bound) => self.forms.hold_sized(self.alloc, bound),
-            None => Ok(()),
-        }
-    }
-
     /// All that was read, with these names.
     pub(crate) fn told<'a>(
         &mut self,
@@ -540,6 +511,7 @@ impl Reader {
             rules,
             terms,
             questions,
+            definitions: self.definitions,
             depth,
             spelling: self.forms.spelling(self.alloc, names, traits),
         })

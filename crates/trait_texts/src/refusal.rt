@@ -28,6 +28,7 @@ pub enum Problem {
     /// A where-clause has to have a parameter in it, where the body of the function has something in it.
     NoParameter,
     UnknownParameter,
+    UnknownImplParameter,
     NoValue,
     UnknownValue,
     /// A function is called by the name of a value.
@@ -61,6 +62,7 @@ impl Problem {
             Problem::NoParameter => b"no parameter stands in what the body would assume",
             Problem::UnknownParameter =>
                 b"no function with something in its body has this parameter",
+            Problem::UnknownImplParameter => b"no impl that is asked about has this parameter",
             Problem::NoValue => b"this value is not read",
             Problem::UnknownValue => b"no value has this name",
             Problem::Value => b"this is a value, and no function",
@@ -104,8 +106,8 @@ impl<'a> Refusal<'a> {
     }
 }
 
-// Writes a number behind a mark.
-fn write_number(
+/// Writes a number behind a mark.
+pub(crate) fn write_number(
     alloc: Global,
     text: &mut Vec<u8>,
     mark: &[u8],

@@ -1,8 +1,18 @@
 //! How types and traits are written.
 
+use crate::refusal::write_number;
 use path_kinds::memory::NoMemory;
 use std::alloc::Global;
 use trait_rules::{Key, Made, Numbered, Terms};
+
+/// What has parameters that are types of their own.
+#[derive(Clone, Copy, PartialEq, Eq, Hash, Drop)]
+pub(crate) enum Owner {
+    /// The function of this name, in its body.
+    Function(usize),
+    /// The impl of this number, from 1 on, where it is asked about.
+    Impl(usize),
+}
 
 /// How the types of a constructor are written. Names and numbers stand here by their numbers.
 #[derive(Clone, Copy, PartialEq, Eq, Hash, Drop)]
@@ -22,8 +32,8 @@ pub(crate) enum Form {
     Function(usize),
     /// `dyn` and this set of traits.
     Dyn(usize),
-    /// A parameter of a function in its body, by the names of the function and of the parameter.
-    Constant(usize, usize),
+    /// A parameter that is a type of its own, by its owner and its name.
+    Constant(Owner, usize),
 }
 
 impl Key for Form {
@@ -59,7 +69,7 @@ enum Piece<'a> {
 // What is written, and what is still to be written, the last one first.
 #[derive(Drop)]
 struct Page<'t, 'a> {
-    // The parameter of a function is written as a question names it.
+    // The parameter of a function or of an impl is written as a question names it.
     is_full: bool,
     text: &'t mut Vec<u8>,
     pieces: Vec<Piece<'a>>,
@@ -126,7 +136,7 @@ impl<'a> Spelling<'a> {
         self.write_named(alloc, text, terms, number, false)
     }
 
-    /// The same as a question may ask it: the parameter `T` of the function `f` is `f::T`.
+    /// The same as a question may ask it: the parameter `T` of the function `f` is `f::T`, and of the second impl `impl::2::T`.
     pub fn write_full_type(
         &self,
         alloc: Global,
@@ -238,7 +248,7 @@ impl<'a> Spelling<'a> {
             Form::Array(length) => self.begin_array(page, length, arguments),
             Form::Function(_) => self.begin_function(page, terms, arguments),
             Form::Dyn(set) => self.write_dyn(alloc, page, set),
-            Form::Constant(function, name) => self.write_constant(page, function, name),
+            Form::Constant(owner, name) => self.write_constant(alloc, page, owner, name),
             form => begin_marks(page, form, arguments),
         }
     }
@@ -258,12 +268,16 @@ impl<'a> Spelling<'a> {
 
     fn write_constant(
         &self,
+        alloc: Global,
         page: &mut Page<'_, 'a>,
-        function: usize,
+        owner: Owner,
         name: usize,
     ) -> Result<(), NoMemory> {
         if page.is_full {
-            page.write(self.name(function))?;
+            match owner {
+                Owner::Function(function) => page.write(self.name(function))?,
+                Owner::Impl(number) => write_number(alloc, page.text, b"impl::", number)?,
+            }
             page.write(b"::")?;
         }
         page.write(self.name(name))

@@ -11,6 +11,7 @@ pub(crate) enum Part {
     Asking,
     AfterAuto,
     AfterFn,
+    AfterImpl,
     Public,
     PublicItem,
     Unsafe,
@@ -30,6 +31,7 @@ pub(crate) enum Part {
     Traits,
     Above,
     Impl,
+    Definition,
     Polarity,
     StructFields,
     StructBody,
@@ -79,6 +81,8 @@ pub(crate) enum Part {
     FunctionResult,
     Arguments,
     ArgumentList,
+    ImplParameter,
+    ImplNumbered,
 }
 
 /// What is made of the words of a type or of bounds. The word that is meant is the one that was passed last.
@@ -92,6 +96,8 @@ pub(crate) enum Making {
     EndPath,
     /// The word names the parameter of the function with whose name the type began.
     Constant,
+    /// The word names the parameter of the impl whose number was passed last.
+    ImplConstant,
     EndParentheses,
     EndTuple,
     EndFunction,
@@ -163,8 +169,12 @@ pub(crate) enum Step {
     /// A name has to stand here, and is passed.
     Name,
     Number,
+    /// The number of an impl has to stand here, and is passed.
+    ImplNumber,
     /// A number in quotes has to stand here, which is the limit on depth.
     Limit,
+    /// An impl begins here.
+    Keep,
     /// This place is kept.
     Mark,
     /// What follows is what stands at the place that was kept last.
@@ -183,6 +193,7 @@ pub(crate) enum When {
     At(&'static str),
     AtName,
     AtLifetime,
+    AtNumber,
     AtEnd,
     Else,
 }
@@ -194,6 +205,7 @@ impl When {
             When::At(word) => text == word.as_bytes(),
             When::AtName => matches!(kind, Kind::Name),
             When::AtLifetime => matches!(kind, Kind::Lifetime),
+            When::AtNumber => matches!(kind, Kind::Number),
             When::AtEnd => matches!(kind, Kind::End),
             When::Else => true,
         }

@@ -3,13 +3,14 @@
 use shown_graphs::Form;
 use std::alloc::Global;
 use trait_pages::Stop;
+use trait_texts::Options;
 
 /// How many levels are shown where no number is given.
 const DEPTH: usize = 100;
 
 /// How the program is called.
 pub(crate) const USAGE: &[u8] =
-    b"traits [--as-rustc] [--why [--depth N] | --dot | --json | --rules | --check DATA] [FILE..]";
+    b"traits [--as-rustc] [--definitions] [--why [--depth N] | --dot | --json | --rules | --check DATA] [FILE..]";
 
 /// What is told of questions.
 #[derive(Clone, Copy)]
@@ -44,7 +45,7 @@ impl How {
 #[derive(Drop)]
 pub(crate) struct Order<'a> {
     pub(crate) how: How,
-    pub(crate) as_rustc: bool,
+    pub(crate) options: Options,
     pub(crate) files: Vec<&'a str>,
 }
 
@@ -52,7 +53,10 @@ pub(crate) struct Order<'a> {
 pub(crate) fn order_of<'a>(alloc: Global, words: &'a [String]) -> Result<Order<'a>, Stop> {
     let mut order = Order {
         how: How::Lines,
-        as_rustc: false,
+        options: Options {
+            as_rustc: false,
+            definitions: false,
+        },
         files: Vec::new(alloc),
     };
     let mut is_depth = false;
@@ -79,7 +83,11 @@ pub(crate) fn order_of<'a>(alloc: Global, words: &'a [String]) -> Result<Order<'
 fn take_option(order: &mut Order<'_>, word: &str) -> Result<(), Stop> {
     let how = match word {
         "--as-rustc" => {
-            order.as_rustc = true;
+            order.options.as_rustc = true;
+            return Ok(());
+        }
+        "--definitions" => {
+            order.options.definitions = true;
             return Ok(());
         }
         "--depth" if matches!(order.how, How::Why(_)) => return Ok(()),

@@ -14,6 +14,7 @@ use program::{answer, ask_declared, show, tell_rules};
 use std::process::ExitCode;
 use std::{io, mem};
 use trait_pages::{Stop, Text, check, declared_in, read_file, read_texts, sources_of, status_told};
+use trait_texts::Options;
 
 fn main(rt: HostRuntime) -> ExitCode {
     ExitCode::from(run(&rt))
@@ -42,16 +43,16 @@ fn all_words(rt: &HostRuntime) -> io::Result<Vec<String>> {
 fn perform(rt: &HostRuntime, words: &[String]) -> Result<bool, Stop> {
     let order = order_of(rt.alloc(), words)?;
     match order.how {
-        How::Check => perform_check(rt, order.files.as_slice(), order.as_rustc),
+        How::Check => perform_check(rt, order.files.as_slice(), order.options),
         how => {
             let texts = read_texts(rt, order.files.as_slice())?;
-            tell(rt, how, texts.as_slice(), order.as_rustc)
+            tell(rt, how, texts.as_slice(), order.options)
         }
     }
 }
 
 // Checks the data in the first file by the texts of the others.
-fn perform_check(rt: &HostRuntime, files: &[&str], as_rustc: bool) -> Result<bool, Stop> {
+fn perform_check(rt: &HostRuntime, files: &[&str], options: Options) -> Result<bool, Stop> {
     let Some((path, files)) = files.split_first() else {
         return Err(Stop::Usage);
     };
@@ -61,7 +62,7 @@ fn perform_check(rt: &HostRuntime, files: &[&str], as_rustc: bool) -> Result<boo
     check(
         rt.alloc(),
         texts.as_slice(),
-        as_rustc,
+        options,
         path,
         data.as_slice(),
         &mut out,
@@ -69,10 +70,10 @@ fn perform_check(rt: &HostRuntime, files: &[&str], as_rustc: bool) -> Result<boo
 }
 
 // Answers the questions of the texts.
-fn tell(rt: &HostRuntime, how: How, texts: &[Text<'_>], as_rustc: bool) -> Result<bool, Stop> {
+fn tell(rt: &HostRuntime, how: How, texts: &[Text<'_>], options: Options) -> Result<bool, Stop> {
     let alloc = rt.alloc();
     let sources = sources_of(alloc, texts)?;
-    let declared = declared_in(alloc, sources.as_slice(), as_rustc)?;
+    let declared = declared_in(alloc, sources.as_slice(), options)?;
     let answered = ask_declared(alloc, declared)?;
     let mut out = rt.stdout();
     let told = match (how.form(), how) {

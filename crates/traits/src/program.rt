@@ -51,6 +51,7 @@ pub(crate) fn ask_declared<'a>(
         questions,
         depth,
         spelling,
+        ..
     } = declared;
     let mut goals = Goals::new(alloc, rules, terms);
     let asked = all_goals(alloc, &mut goals, questions.as_slice())?;
