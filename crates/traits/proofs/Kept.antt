@@ -1,6 +1,6 @@
 -- What is right of goals when more is known was right of them before.
-use Rattle.std.proofs.Common.{◌≡◌, ℕ, ◌⊎◌, inl, inr, List, [], ◌∷◌, ◌++◌, length, Option, Some, Ok, refl, sym, ◌∙◌}
-use Rattle.std.proofs.Common.{ap, subst, Bool, true, false, ◌&&◌, nat_le, ◌<◌, ◌≤◌}
+use Rattle.std.proofs.Common.{◌≡◌, ℕ, inl, inr, List, [], ◌∷◌, ◌++◌, length, Some, sym, ◌∙◌}
+use Rattle.std.proofs.Common.{subst, Bool, true, false, ◌&&◌, nat_le, ◌<◌, ◌≤◌}
 use Rattle.std.proofs.lemmas.Bool.{le-leb}
 use Rattle.std.specs.Prelude.{slice_get, Result}
 use Rattle.delegate_parts.specs.declared.outcome.Outcome.{Outcome}
@@ -42,6 +42,21 @@ module _ (table more : Table) (kept : Extends table more) where
     };
   }
 
+-- no answers yet
+pub none_right : (table : Table) (goals : List ℕ) (came : List (Result Outcome (Fault ℕ Outcome))) → came ≡ [] →
+    AreRight table goals came
+none_right table goals came none = record {
+  each = λ place goal answer at is.
+      let no : slice_get [] place ≡ Some answer = subst (λ l. slice_get l place ≡ Some answer) none is in absurd cc;
+}
+
+pub none_answered : (table : Table) (goals : List ℕ) (came : List (Result Outcome (Fault ℕ Outcome))) → came ≡ [] →
+    AreAnswered table goals came
+none_answered table goals came none = record {
+  each = λ place goal answer at within is.
+      let no : slice_get [] place ≡ Some answer = subst (λ l. slice_get l place ≡ Some answer) none is in absurd cc;
+}
+
 -- one more answer
 pub right_more : (table : Table) (goals : List ℕ) (came more : List (Result Outcome (Fault ℕ Outcome))) (goal : ℕ)
     (answer : Result Outcome (Fault ℕ Outcome)) → AreRight table goals came → more ≡ came ++ answer ∷ [] →
@@ -57,9 +72,6 @@ right_more table goals came more goal answer h is at right = record {
             subst (λ a. IsRight table other a) (sym w.1) (subst (λ g. IsRight table g answer) so right)
       ];
 }
-
-pub none_right : (table : Table) (goals : List ℕ) → AreRight table goals []
-none_right table goals = record { each = λ place goal answer at is. absurd cc }
 
 -- one more goal is answered
 pub answered_more : (table : Table) (goals : List ℕ) (came more : List (Result Outcome (Fault ℕ Outcome))) (goal : ℕ)
@@ -79,9 +91,6 @@ answered_more table goals came more goal answer h is at told = record {
             (told (subst (λ g. g < length table.asked) (sym so) within)))
       ];
 }
-
-pub none_answered : (table : Table) (goals : List ℕ) → AreAnswered table goals []
-none_answered table goals = record { each = λ place goal answer at within is. absurd cc }
 
 -- a question with enough depth leaves what was noted of depths
 pub still_deep : (had now : Bool) (count depth : ℕ) → now ≡ (had && nat_le count depth) → had ≡ true → count ≤ depth →

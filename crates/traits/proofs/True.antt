@@ -1,5 +1,5 @@
 -- What is right of goals is true of the questions that they are the goals of.
-use Rattle.std.proofs.Common.{◌≡◌, ◌∙◌, ◌<◌, ℕ, List, length, Option, Some, Result, Ok, arith, get_or, refl, subst, sym}
+use Rattle.std.proofs.Common.{◌≡◌, ◌∙◌, ◌<◌, ℕ, List, length, Some, Result, arith, get_or, refl, subst, sym}
 use Rattle.std.proofs.lemmas.Option.{slice_get-get_or, slice_get_within}
 use Rattle.std.specs.Prelude.{slice_get}
 use Rattle.delegate_parts.specs.declared.outcome.Outcome.{Outcome}
@@ -13,8 +13,8 @@ use Rattle.trait_rules.specs.declared.made.Made.{Made}
 use Rattle.trait_rules.specs.Terms.{Stands, Term, applied, applied_at, constructor, constructor_at}
 use Rattle.trait_rules.specs.declared.rules.Rules.{Rules}
 use Rattle.trait_texts.specs.declared.declarations.Question.{Question}
-use Rattle.traits.specs.Right.{AreRight, IsRight}
-use Rattle.traits.specs.True.{AreTrue, IsTrue}
+use Rattle.traits.specs.Right.{AreRight}
+use Rattle.traits.specs.True.{AreTrue}
 
 stands_within : (made : List Made) (number : ℕ) (term : Term) → Stands made number term → number < length made
 stands_within made number (constructor c) (constructor_at e) = slice_get_within made number _ e

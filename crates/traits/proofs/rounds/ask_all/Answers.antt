@@ -4,8 +4,17 @@ use Rattle.std.proofs.lemmas.Option.{slice_get-get_or}
 use Rattle.trait_goals.proofs.Clauses.{length_more}
 use Rattle.trait_answers.specs.Answered.{CanBeTold}
 use Rattle.traits.specs.Right.{IsAnswered, IsRight}
-use Rattle.traits.proofs.Kept.{answered_more, right_more, still_deep}
+use Rattle.traits.proofs.Kept.{answered_more, none_answered, none_right, right_more, still_deep}
 use Rattle.traits.proofs.rounds.ask_all.Goals as goal
+
+pub loop-goal-init : goal.loop-goal-init
+loop-goal-init g c = record {
+  same = c.new-answers.ensures.goals;
+  count = ap length c.in_ok-came.ensures.items;
+  right = none_right _ _ _ c.in_ok-came.ensures.items;
+  deep = λ enough. c.new-answers.ensures.deep;
+  told = λ all enough. none_answered _ _ _ c.in_ok-came.ensures.items;
+}
 
 pub loop-goal-preserved : goal.loop-goal-preserved
 loop-goal-preserved g c =

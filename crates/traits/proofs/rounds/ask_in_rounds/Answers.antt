@@ -1,4 +1,3 @@
-use Rattle.trait_goals.proofs.Extending.{extends_then}
 use Rattle.traits.proofs.Kept.{right_before}
 use Rattle.traits.proofs.rounds.ask_in_rounds.Goals as goal
 
