@@ -244,7 +244,11 @@ DEFINITIONS = [
         "(T,): A no\n(T,): Sized yes\n(T,): A no\n",
     ),
     # negative impls, auto traits, and supertraits that are not direct
-    ("trait B {} auto trait A: B {} impl !A for u8 {} impl A for i8 {} impl B for () {} impl<T> A for T where T: B {}", "", "i8: B no\nT: B yes\n"),
+    (
+        "trait B {} auto trait A: B {} impl !A for u8 {} impl A for i8 {} impl B for () {} impl<T> A for T where T: B {}",
+        "",
+        "i8: B no\nT: B yes\n",
+    ),
     ("trait A {} trait B: A {} trait C: B {} impl C for u8 {} impl B for u8 {}", "", "u8: B yes\nu8: A no\n"),
     # where-clauses without a parameter say nothing
     (
@@ -438,6 +442,7 @@ REFUSED = [
 # How much of what a text that means ill has too much of.
 MANY = 100_000
 BASE = "struct L<T>(T);\nauto trait A {}\ntrait B {}\nimpl<T: B> B for L<T> {}\n"
+ABOVE = "struct L<T>(T);\ntrait A {}\ntrait B: A {}\n"
 # Types that can be nested, by what is written before the inner one, and what behind it.
 NESTED = {
     "types": ("L<", ">"),
@@ -476,6 +481,8 @@ def deep_texts():
     yield "a deep head", f"{BASE}impl<T> B for (T, {generic}) {{}}\n(u8, L<u8>): B?"
     yield "a deep head that fits", f"struct L<T>(T); trait B {{}}\nimpl<T> B for {generic} {{}}\n{deep}: B?"
     yield "a deep where-clause", f"{BASE}impl<T> B for (T,) where {generic}: B {{}}\n(u8,): B?"
+    yield "a deep head asked about", f"{ABOVE}impl<T> B for {generic} where Self: A {{}}"
+    yield "a deep where-clause asked about", f"{ABOVE}impl<T> B for (T,) where {generic}: A {{}}"
     yield "a deep argument", f"{BASE}fn f<T: B>() {{}} fn main() {{ f::<{deep}>(); }}"
     yield "a deep bound", f"{BASE}fn f<T>() where {generic}: B {{}} fn main() {{ f::<u8>(); }}"
     yield "a deep value", f"{BASE}fn f<T: B>(_: T) {{}} fn g(x: {deep}) {{ f(x); f(&x); }}"
@@ -497,6 +504,10 @@ def long_texts():
     yield "many different bounds of a type", f"{each('trait B{} {{}}', ' ')}\ndyn {each('B{}', ' + ')}: B7?"
     yield "many parameters", f"{BASE}struct S<{each('T{}')}>(T7);\nS<{'u8, ' * MANY}>: A + B?"
     yield "many parameters of an impl", f"{BASE}impl<{each('T{}')}> B for ({each('T{}')}) {{}}"
+    heads = f"impl<{each('T{}: A')}> B for ({each('T{}')}) {{}}"
+    yield "many parameters of an impl asked about", f"{ABOVE}{heads}"
+    yield "many where-clauses of an impl asked about", f"{ABOVE}impl<T> B for (T,) where {'T: A, (Self, T): A, ' * MANY} {{}}"
+    yield "many impls asked about", f"{ABOVE}{'impl B for u8 {} ' * MANY}"
     call = f"fn main() {{ f::<{'u8, ' * MANY}>(); }}"
     yield "many parameters of a function", f"{BASE}fn f<{each('T{}: B')}>() {{}} {call}"
     yield "many lifetimes", f"""{BASE}struct S<{each("'a{}")}>;\nS: A?"""
