@@ -2,7 +2,17 @@
 
 use std::alloc::{AllocError, Global};
 use std::test::Fail;
-use trait_texts::{Declarations, ReadFault, Source, read};
+use trait_texts::{Declarations, Options, ReadFault, Source, read};
+
+const PLAIN: Options = Options {
+    as_rustc: false,
+    definitions: false,
+};
+
+const WITH_IMPLS: Options = Options {
+    as_rustc: true,
+    definitions: true,
+};
 
 /// A text, and its questions as it is read, or why it is refused.
 const ROWS: [(&str, &str, &str); 22] = [
@@ -110,9 +120,17 @@ const ROWS: [(&str, &str, &str); 22] = [
 #[test]
 fn declarations_are_read(rt: HostRuntime) -> Result<(), Fail> {
     for (name, text, wanted) in ROWS {
-        let told = told(rt.alloc(), text)?;
+        let told = told(rt.alloc(), text, PLAIN)?;
         assert!(rt; told.as_slice() == wanted.as_bytes(), "{name}");
     }
+    Ok(())
+}
+
+#[test]
+fn impls_are_asked_about_last(rt: HostRuntime) -> Result<(), Fail> {
+    let text = "trait A {} impl<T> B for (T,) where T: B {} trait B: A {} i32: B?";
+    let told = told(rt.alloc(), text, WITH_IMPLS)?;
+    assert!(rt; told.as_slice() == b"i32: B\n(T,): A\n".as_slice());
     Ok(())
 }
 
@@ -128,7 +146,7 @@ fn the_last_limit_counts(rt: HostRuntime) -> Result<(), Fail> {
             text: b"#![allow(dead_code)] #![recursion_limit = \"256\"]",
         },
     ];
-    let depth = match read(rt.alloc(), sources.as_slice(), true) {
+    let depth = match read(rt.alloc(), sources.as_slice(), PLAIN) {
         Ok(declarations) => declarations.depth,
         Err(_) => 0,
     };
@@ -136,13 +154,13 @@ fn the_last_limit_counts(rt: HostRuntime) -> Result<(), Fail> {
     Ok(())
 }
 
-fn told(alloc: Global, text: &str) -> Result<Vec<u8>, AllocError> {
+fn told(alloc: Global, text: &str, options: Options) -> Result<Vec<u8>, AllocError> {
     let mut told = Vec::new(alloc);
     let source = Source {
         name: b"x",
         text: text.as_bytes(),
     };
-    match read(alloc, [source].as_slice(), false) {
+    match read(alloc, [source].as_slice(), options) {
         Ok(declarations) => tell(alloc, &mut told, &declarations)?,
         Err(ReadFault::Refused(refusal)) => refusal
             .write(alloc, &mut told)
