@@ -10,7 +10,7 @@ use Rattle.std.specs.List.{AllByRecursion, slice_get}
 use Rattle.std.specs.List.Sorted.{IsStrictlySortedBy}
 use Rattle.std.specs.Map.{keys_of}
 use Rattle.std.specs.declared.cmp.Ordering.TheVariants.{Less}
-use Rattle.open_graphs.proofs.Lists.{get_end}
+use Rattle.list_lemmas.proofs.Lists.{get_end}
 use Rattle.cycle_heads.specs.Words.{StackDepth, CycleHead, depth_cmp, highest, Heads, IsRising}
 use Rattle.cycle_heads.proofs.Places.{rising_at}
 

@@ -4,8 +4,8 @@
 use Rattle.std.proofs.Common.{◌≡◌, ℕ, zero, suc, ◌<◌, ◌⊎◌, inl, inr, List, [], ◌∷◌, ◌++◌, length, map, slice_get}
 use Rattle.std.proofs.Common.{Contains, Some, IsSomeAnd, option_map, refl, sym, ◌∙◌, ap, subst, arith, length-append}
 use Rattle.std.proofs.lemmas.Bool.{cases_eq}
-use Rattle.open_graphs.proofs.Lists.{get_end, get_left}
-use Rattle.open_graphs.proofs.Members.{contains_later, first_or_later}
+use Rattle.list_lemmas.proofs.Lists.{get_end, get_left}
+use Rattle.list_lemmas.proofs.Members.{contains_later, first_or_later}
 use Rattle.determined.specs.Below.{Edge, GraphNode, HasEdge, HasGoal, Inductive, IsGraph, IsWalk, PathKind, Question}
 use Rattle.determined.specs.Below.{greater_kind, question_of, walk_kind}
 

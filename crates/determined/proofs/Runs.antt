@@ -5,7 +5,7 @@ use Rattle.std.specs.Bool.{⊤}
 use Rattle.std.proofs.lemmas.Bool.{and_parts, cases_Bool, not-true}
 use Rattle.std.proofs.lemmas.List.Elements.{Contains-append_cases}
 use Rattle.search_context.proofs.Graphs.{Contains-map, filtered_member}
-use Rattle.open_graphs.proofs.Members.{first_or_later}
+use Rattle.list_lemmas.proofs.Members.{first_or_later}
 use Rattle.determined.specs.Below.{AreDecided, Answer, Asked, Begin, Done, EndsIn, EnterCandidate, Evaluate}
 use Rattle.determined.specs.Below.{FinishCandidate, Ignore, IsDefinite, IsFitting, IsInOrder, IsOrderly, IsReplyTo}
 use Rattle.determined.specs.Below.{Noted, PathKind, Progress, Question, Reply, Request, Verdicts, is_counted}

@@ -7,7 +7,7 @@ use Rattle.std.proofs.lemmas.Option.{get_or_from_slice_get, slice_get-map, slice
 use Rattle.open_graphs.specs.Graph as theory
 use Rattle.open_graphs.specs.Collected as shape
 use Rattle.open_graphs.proofs.Collecting.{collecting_keeps_graph}
-use Rattle.open_graphs.proofs.Lists.{mapped_some}
+use Rattle.list_lemmas.proofs.Lists.{mapped_some}
 use Rattle.graph_nodes.specs.Below.{Edge, NodeId, Request, Reply, verdict_of, Verdicts}
 use Rattle.graph_nodes.specs.Words.{EndedRun, CacheNode, AreLive, AreRuns, Collected, edge_shape, graph_node_of}
 use Rattle.graph_nodes.specs.Words.{graph_nodes_of, HasGraph, IsGone, IsNodeOf, shape_of, shapes_of}

@@ -6,8 +6,8 @@ use Rattle.std.proofs.lemmas.List.{map-append, take_more}
 use Rattle.std.proofs.lemmas.List.Quantifiers.{position-Some}
 use Rattle.std.proofs.lemmas.Map.Views.{exact_unsigned_eq}
 use Rattle.std.proofs.lemmas.Option.{slice_get-get_or, slice_get_within, get_or_from_slice_get}
-use Rattle.open_graphs.proofs.Lists.{get_left, get_cases, get_end}
-use Rattle.open_graphs.proofs.Members.{Contains-mapped}
+use Rattle.list_lemmas.proofs.Lists.{get_left, get_cases, get_end}
+use Rattle.list_lemmas.proofs.Members.{Contains-mapped}
 use Rattle.graph_nodes.specs.Below.{Edge, original_edge}
 use Rattle.graph_nodes.specs.Words.{Finds, ArePlaced}
 

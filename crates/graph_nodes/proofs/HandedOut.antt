@@ -9,8 +9,8 @@ use Rattle.std.proofs.lemmas.Bool.{cases_lt, cases_order}
 use Rattle.std.proofs.lemmas.Bool.Decides.{nat_tests}
 use Rattle.std.proofs.lemmas.Option.{slice_get_cases, slice_get-map, slice_get-get_or}
 use Rattle.std.proofs.lemmas.Option.{slice_get_within, get_or_from_slice_get}
-use Rattle.open_graphs.proofs.Lists.{get_cases}
-use Rattle.open_graphs.proofs.Members.{Contains-map}
+use Rattle.list_lemmas.proofs.Lists.{get_cases}
+use Rattle.list_lemmas.proofs.Members.{Contains-map}
 use Rattle.graph_nodes.specs.Below.{Edge, Node, HasEdge, IsWalk, IsReached, original_edge, goal_node_of, goal_nodes_of}
 use Rattle.graph_nodes.specs.Words.{CacheNode, finished_node, graph_node_of, graph_nodes_of, Finds, IsWhole}
 use Rattle.graph_nodes.specs.Words.{original_node, Copies, ended_node}

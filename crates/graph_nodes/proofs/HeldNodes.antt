@@ -8,7 +8,7 @@ use Rattle.std.specs.Option.{IsSomeAnd, option_or}
 use Rattle.std.proofs.lemmas.Bool.{cases_eq, cases_lt, false≢true}
 use Rattle.std.proofs.lemmas.Option.{MatchOption-at_some, slice_get_past, slice_get_read, slice_get_within}
 use Rattle.std.proofs.lemmas.List.Sums.{sum_by_push}
-use Rattle.open_graphs.proofs.Lists.{get_left, get_end, get_cases, get_set_other, get_set_same, mapped_some}
+use Rattle.list_lemmas.proofs.Lists.{get_left, get_end, get_cases, get_set_other, get_set_same, mapped_some}
 use Rattle.graph_nodes.specs.Below.{Node}
 use Rattle.graph_nodes.specs.Words.{Slot, Open, Finished, Held, CacheNode, goal_if_open, gone_node, node_of, open_node}
 use Rattle.graph_nodes.specs.Words.{run_of, with_run, open_goal, AreHeld, HasNumber, is_held, IsGone, IsRising}

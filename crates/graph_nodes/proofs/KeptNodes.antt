@@ -7,7 +7,7 @@ use Rattle.std.proofs.lemmas.Bool.{cases_eq, cases_lt}
 use Rattle.std.proofs.lemmas.List.{length-take-le}
 use Rattle.std.proofs.lemmas.Option.{slice_get-get_or, slice_get_past}
 use Rattle.std.specs.List.{SwappedAt}
-use Rattle.open_graphs.proofs.Lists.{get_left, get_end, get_set_other, get_set_same}
+use Rattle.list_lemmas.proofs.Lists.{get_left, get_end, get_set_other, get_set_same}
 use Rattle.graph_nodes.specs.Words.{IsMarked, kept}
 use Rattle.graph_nodes.proofs.HeldNodes.{same_by_places}
 use Rattle.graph_nodes.proofs.MarkedNodes.{take_all}

@@ -13,8 +13,8 @@ use Rattle.std.proofs.lemmas.List.{length-take-le, take-append-drop}
 use Rattle.std.proofs.lemmas.List.Elements.{Contains-append_cases, Contains-append_left, Contains-append_right}
 use Rattle.std.proofs.lemmas.Map.Views.{Contains-from_any, exact_unsigned_eq, list_any-from_Contains}
 use Rattle.std.proofs.lemmas.Option.{slice_get-map, slice_get_within}
-use Rattle.open_graphs.proofs.Lists.{get_left}
-use Rattle.open_graphs.proofs.Members.{Contains-map, Contains-mapped}
+use Rattle.list_lemmas.proofs.Lists.{get_left}
+use Rattle.list_lemmas.proofs.Members.{Contains-map, Contains-mapped}
 use Rattle.search_context.proofs.Graphs.{IsReached-step}
 use Rattle.graph_nodes.specs.Below.{Edge, HasEdge, IsReached, NodeId}
 use Rattle.graph_nodes.specs.Words.{AreHeld, AreLive, AreMarked, CacheNode, Collected, edges_of, graph_node_of}

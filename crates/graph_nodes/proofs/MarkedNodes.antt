@@ -9,8 +9,8 @@ use Rattle.std.proofs.lemmas.Bool.{cases_eq, cases_lt}
 use Rattle.std.proofs.lemmas.List.{map-append, take_more}
 use Rattle.std.proofs.lemmas.List.Elements.{Contains-append_cases, Contains-append_left, Contains-append_right}
 use Rattle.std.proofs.lemmas.Option.{get_or_from_slice_get, slice_get-get_or, slice_get_read, slice_get_within}
-use Rattle.open_graphs.proofs.Lists.{get_set_other, get_set_same, mapped_some}
-use Rattle.open_graphs.proofs.Members.{Contains-mapped}
+use Rattle.list_lemmas.proofs.Lists.{get_set_other, get_set_same, mapped_some}
+use Rattle.list_lemmas.proofs.Members.{Contains-mapped}
 use Rattle.graph_nodes.specs.Words.{Held, AreMarked, AreNone, AreWaiting, HasNumber, IsClosed, IsFound, IsMarked}
 use Rattle.graph_nodes.specs.Words.{IsRising, Marks, MarksFrom, slot_at, targets_of, unmarked, with_root, root, next}
 use Rattle.search_context.specs.declared.context.NodeId.{NodeId}

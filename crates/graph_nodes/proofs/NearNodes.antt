@@ -4,7 +4,7 @@ use Rattle.std.proofs.Common.{take, refl, sym, ap, subst, ◌∙◌, inl, inr, a
 use Rattle.std.specs.List.{slice_get}
 use Rattle.std.proofs.lemmas.Bool.{cases_lt}
 use Rattle.std.proofs.lemmas.Option.{slice_get-get_or, slice_get_within}
-use Rattle.open_graphs.proofs.Lists.{mapped_some}
+use Rattle.list_lemmas.proofs.Lists.{mapped_some}
 use Rattle.graph_nodes.specs.Words.{Held, HasNumber, IsRising, IsWindow, slot_at}
 use Rattle.graph_nodes.proofs.HeldNodes.{not_held, slot_of}
 use Rattle.graph_nodes.proofs.SearchedNodes.{has_number}

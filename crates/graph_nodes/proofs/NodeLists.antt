@@ -7,7 +7,7 @@ use Rattle.std.specs.Option.{IsSomeAnd}
 use Rattle.std.proofs.lemmas.List.{map-append, map-set}
 use Rattle.std.proofs.lemmas.Option.{slice_get-map}
 use Rattle.open_graphs.specs.Graph as theory
-use Rattle.open_graphs.proofs.Lists.{mapped_some, get_left, get_cases, get_set_same, get_set_other}
+use Rattle.list_lemmas.proofs.Lists.{mapped_some, get_left, get_cases, get_set_same, get_set_other}
 use Rattle.open_graphs.proofs.Keep.{append_grows, finish_grows}
 use Rattle.graph_nodes.specs.Below.{Request, Reply, Verdicts}
 use Rattle.graph_nodes.specs.Words.{EndedRun, CacheNode, goal_if_open, open_node, open_goal, with_run, IsNodeOf, IsRun}

@@ -10,7 +10,7 @@ use Rattle.graph_nodes.specs.Below.{goal_nodes_of, IsRunOfSort, IsValid, Verdict
 use Rattle.graph_nodes.specs.Words.{EndedRun, CacheNode, IsNodeOf, IsRun, AreRuns, graph_node_of, graph_nodes_of}
 use Rattle.graph_nodes.specs.Words.{HasGraph, original_node, Copies, shapes_of}
 use Rattle.search_context.specs.Graph.{IsGraph}
-use Rattle.open_graphs.proofs.Lists.{mapped_some}
+use Rattle.list_lemmas.proofs.Lists.{mapped_some}
 use Rattle.graph_nodes.proofs.Bridge.{Ended, IsSort, yes_sort, no_sort, ended_at, known_at, has_graph}
 use Rattle.search_context.proofs.Copies.{node_with_edge, original_has, original_walk, copy_goal}
 use Rattle.search_context.proofs.Copies.{same_questions, same_walk_kind}

@@ -10,7 +10,7 @@ use Rattle.std.proofs.lemmas.List.Elements.{All-get_or, All-head, All-tail}
 use Rattle.std.proofs.lemmas.Option.{get_or_from_slice_get, slice_get-map, slice_get_within}
 use Rattle.std.proofs.lemmas.Str.{IsUtf8-append, IsUtf8-from_ascii}
 use Rattle.std.specs.Str.{IsUtf8}
-use Rattle.open_graphs.proofs.Lists.{mapped_some}
+use Rattle.list_lemmas.proofs.Lists.{mapped_some}
 use Rattle.path_kinds.specs.declared.path.PathKind.{PathKind}
 use Rattle.path_kinds.specs.declared.path.PathKind.TheVariants.{Coinductive, Inductive}
 use Rattle.search_context.specs.Graph.{GraphNode, HasGoal, question_of}

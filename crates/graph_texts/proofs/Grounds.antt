@@ -1,7 +1,7 @@
 -- What a set of questions says of edges.
 use Rattle.std.proofs.Common.{◌≡◌, ◌∙◌, ◌||◌, ◌&&◌, ◌+◌, ◌++◌, ℕ, Bool, Some, slice_get, take, true, false, List, []}
 use Rattle.std.proofs.Common.{◌∷◌, ap, arith, inl, inr, refl, rules, subst, sym, Contains, ◌↔◌}
-use Rattle.open_graphs.proofs.Members.{contains_later, first_or_later}
+use Rattle.list_lemmas.proofs.Members.{contains_later, first_or_later}
 use Rattle.std.proofs.lemmas.Bool.{and_parts, false≢true, or_cases}
 use Rattle.std.proofs.lemmas.List.{take_more}
 use Rattle.std.proofs.lemmas.Option.{get_or_from_slice_get, slice_get_within}

@@ -3,7 +3,7 @@ use Rattle.std.proofs.Common.{⊎_elim, inl, inr, ◌≡◌, ◌≢◌, ◌∙�
 use Rattle.std.proofs.Common.{length, nat_le, nat_lt, None, ℕ, Bool, true, false, ◌&&◌, ◌||◌, List, [], ◌∷◌, ◌++◌, ap}
 use Rattle.std.proofs.Common.{sym, refl, rules, subst, eq-eqb, eqb-true, nat_eq, slice_set, Some, slice_get, zero}
 use Rattle.std.proofs.Common.{suc, replicate}
-use Rattle.open_graphs.proofs.Lists.{get_set_other, get_set_same}
+use Rattle.list_lemmas.proofs.Lists.{get_set_other, get_set_same}
 use Rattle.std.proofs.lemmas.Bool.{cases_Bool}
 use Rattle.std.proofs.lemmas.List.{append-nil}
 use Rattle.std.proofs.lemmas.List.Elements.{filter_map-append}

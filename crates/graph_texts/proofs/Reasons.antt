@@ -1,7 +1,7 @@
 -- What a text names is so in a valid graph.
 use Rattle.std.proofs.Common.{◌≡◌, ◌∙◌, ℕ, zero, suc, All, Bool, List, [], ◌∷◌, Contains, IfNone, IfSome, map, None}
 use Rattle.std.proofs.Common.{Option, Some, ap, arith, refl, reverse, slice_get, subst, sym}
-use Rattle.open_graphs.proofs.Members.{contains_later, Contains-map, Contains-mapped}
+use Rattle.list_lemmas.proofs.Members.{contains_later, Contains-map, Contains-mapped}
 use Rattle.std.proofs.lemmas.List.Elements.{All-contains, All-contains_itself, All-weaker}
 use Rattle.std.specs.List.{AllZip}
 use Rattle.candidate_lists.specs.Laws.Runs.{no_is_refuted, yes_is_proved}

@@ -6,7 +6,7 @@ use Rattle.open_graphs.specs.Words.{Verdict, Edge, Node, same_verdict, Entry, pa
 use Rattle.open_graphs.specs.Words.{IncludesBelow, IsAnsweredEdge, AllAnswered, no_heads, stack_of, with_edge}
 use Rattle.open_graphs.specs.Words.{OneAnswerKeepsSound, CycleIsAnswered, DoneIsAnswered}
 use Rattle.open_graphs.specs.Words.{ProvisionalIsAnswered, FinalIsAnswered}
-use Rattle.open_graphs.proofs.Lists.{get_cases}
+use Rattle.list_lemmas.proofs.Lists.{get_cases}
 use Rattle.open_graphs.proofs.Verdicts.{same}
 use Rattle.open_graphs.proofs.Answers.{cycle_gives_use, use_gives_edge}
 use Rattle.open_graphs.proofs.Store.{stored_gives_use}

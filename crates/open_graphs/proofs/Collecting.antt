@@ -6,7 +6,7 @@ use Rattle.open_graphs.specs.Collected.{AreLiveFrames, Collected, CollectingKeep
 use Rattle.open_graphs.specs.Words.{AllRunning, Edge, Entry, go, Grown, has_verdict, HasShapeEdge, Heads, IsClosedGraph}
 use Rattle.open_graphs.specs.Words.{IsFinished, IsStack, Node, path_kind, ProvisionalUse, Running, RunningGoal}
 use Rattle.open_graphs.specs.Words.{stack_of, stay, Step, Unfinished, Use, Verdict, Walk}
-use Rattle.open_graphs.proofs.Lists.{get_cases}
+use Rattle.list_lemmas.proofs.Lists.{get_cases}
 use Rattle.open_graphs.proofs.Transfer.{transfer_use}
 use Rattle.open_graphs.proofs.Walks.{carried}
 

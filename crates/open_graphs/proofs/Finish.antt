@@ -5,7 +5,7 @@ use Rattle.std.proofs.lemmas.Option.{slice_get_within}
 use Rattle.open_graphs.specs.Words.{Verdict, cycle_kind, Edge, Node, Unfinished, Finished, IsFinished, Walk, stay, Path}
 use Rattle.open_graphs.specs.Words.{end, then, Avoids, Entry, IsLeaf, Accepts, path_kind, Step, Heads, Recorded, Use}
 use Rattle.open_graphs.specs.Words.{IsRunsNode, AllAnswered}
-use Rattle.open_graphs.proofs.Lists.{get_left, get_end, get_set_other, get_set_same}
+use Rattle.list_lemmas.proofs.Lists.{get_left, get_end, get_set_other, get_set_same}
 use Rattle.open_graphs.proofs.Walks.{closed_walk, placed_walk}
 use Rattle.open_graphs.proofs.Paths.{Covered, covered_walk, carried_past}
 use Rattle.open_graphs.proofs.PathKinds.{path_kind_below, path_kind_top}

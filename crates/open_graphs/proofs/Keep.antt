@@ -7,7 +7,7 @@ use Rattle.std.proofs.lemmas.Option.{slice_get_within}
 use Rattle.open_graphs.specs.Words.{Verdict, cycle_kind, Node, Unfinished, Finished, IsFinished, HasShapeEdge, Walk}
 use Rattle.open_graphs.specs.Words.{Grown, Entry, IsLeaf, Accepts, Step, OpenGraph, Heads, Recorded, Use, Unreached}
 use Rattle.open_graphs.specs.Words.{Includes, IncludesBelow, IsSameOrFresh, UsesNo}
-use Rattle.open_graphs.proofs.Lists.{get_left, get_end, get_cases, get_set_other}
+use Rattle.list_lemmas.proofs.Lists.{get_left, get_end, get_cases, get_set_other}
 use Rattle.open_graphs.proofs.Paths.{covered_walk}
 use Rattle.open_graphs.proofs.Transfer.{same_walk, transfer_use}
 

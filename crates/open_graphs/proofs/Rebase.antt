@@ -6,7 +6,7 @@ use native.Mathlib.Decide.{ℕ_discrete}
 use Rattle.open_graphs.specs.Words.{Verdict, cycle_kind, Node, IsFinished, Walk, stay, go, Path, end, then, Avoids}
 use Rattle.open_graphs.specs.Words.{Entry, IsLeaf, Accepts, path_kind, path_through, Step, Heads, Recorded, Use}
 use Rattle.open_graphs.specs.Words.{HeadsWithin, ProvisionalUse, IncludesBelow, KeepsCycleKinds, TakesOver, Unreached}
-use Rattle.open_graphs.proofs.Lists.{get_left, get_end}
+use Rattle.list_lemmas.proofs.Lists.{get_left, get_end}
 use Rattle.open_graphs.proofs.PathKinds.{path_kind_below, through_top, through_popped}
 use Rattle.open_graphs.proofs.Keep.{leaf_cases, recorded_at, accepts_at, heads_below_keep_use, pop_keeps_use}
 use Rattle.open_graphs.proofs.Store.{along}

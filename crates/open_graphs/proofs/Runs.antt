@@ -3,7 +3,7 @@ use Rattle.std.proofs.Common.{◌≡◌, ◌≢◌, ℕ, ◌<◌, List, [], ◌�
 use Rattle.std.proofs.Common.{sym, subst, ◌∙◌, inl, inr, length-append, false}
 use Rattle.open_graphs.specs.Words.{Verdict, Neither, Edge, Node, Unfinished, Finished, Grown, Entry, IsLeaf, path_kind}
 use Rattle.open_graphs.specs.Words.{Heads, Use, Running, IsStack, Answered, Again, Anew, Without, IsClosedGraph, UsesNo}
-use Rattle.open_graphs.proofs.Lists.{get_left, get_end, get_cases}
+use Rattle.list_lemmas.proofs.Lists.{get_left, get_end, get_cases}
 use Rattle.open_graphs.proofs.Keep.{append_grows, finish_grows, growth_keeps_use, heads_keep_use}
 use Rattle.open_graphs.proofs.Finish.{finish_gives_use}
 use Rattle.open_graphs.proofs.Store.{included}

@@ -9,7 +9,7 @@ use Rattle.open_graphs.specs.Words.{ProvisionalEntry, Final, stack_of, no_heads,
 use Rattle.open_graphs.specs.Words.{AllFinal, IsMoved, IsFixpoint, Lower, Unused, Fixpoint, Other, PushKeepsSound}
 use Rattle.open_graphs.specs.Words.{AnswersKeepSound, IsLeft, Survives, Added, IsFinalAfter, Before, Now, PopKeepsSound}
 use Rattle.open_graphs.specs.Words.{RerunKeepsSound, StartIsSound, FinalIsGraph, AfterPop}
-use Rattle.open_graphs.proofs.Lists.{get_left, get_end, get_set_other}
+use Rattle.list_lemmas.proofs.Lists.{get_left, get_end, get_set_other}
 use Rattle.open_graphs.proofs.Keep.{append_grows, growth_keeps_use, push_keeps_use, pop_keeps_use, rerun_keeps_use}
 use Rattle.open_graphs.proofs.Keep.{unused_is_unreached, other_is_unreached}
 use Rattle.open_graphs.proofs.Store.{use_gives_stored, growth_keeps_stored, push_keeps_stored}

@@ -8,8 +8,8 @@ use Rattle.std.specs.Int.RustNames.{bit_and, bit_or}
 use Rattle.path_kinds.specs.Words.{PathKind, Inductive, Unknown, Coinductive, ForcedAmbiguity, PathsToNested}
 use Rattle.path_kinds.specs.Words.{greater_kind, extended, has_empty, has_kind, kinds_after, no_paths, paths_of, union}
 use Rattle.path_kinds.specs.Words.{union_of, unnamed_in}
-use Rattle.open_graphs.proofs.Members.{contains_later}
-pub use Rattle.open_graphs.proofs.Members.{first_or_later}
+use Rattle.list_lemmas.proofs.Members.{contains_later}
+pub use Rattle.list_lemmas.proofs.Members.{first_or_later}
 use Rattle.path_kinds.proofs.PathSets.{all_below, passes, passes_each, same_bits}
 use Rattle.path_kinds.proofs.PathRanks.{each_kind}
 

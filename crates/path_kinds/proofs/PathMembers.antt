@@ -4,7 +4,7 @@ use Rattle.std.proofs.lemmas.Bool.{false≢true}
 use Rattle.std.proofs.lemmas.List.Elements.{Contains-append_right}
 use Rattle.path_kinds.specs.Words.{PathKind, Inductive, Unknown, Coinductive, ForcedAmbiguity, PathsToNested}
 use Rattle.path_kinds.specs.Words.{greater_kind, extended, extended_by_each, has_empty, has_kind, kinds_in, no_paths}
-use Rattle.open_graphs.proofs.Members.{Contains-filtered, Contains-mapped, filtered_member}
+use Rattle.list_lemmas.proofs.Members.{Contains-filtered, Contains-mapped, filtered_member}
 use Rattle.path_kinds.proofs.PathLaws.{each_set, extended-kinds, has_kind-none, some_set}
 use Rattle.path_kinds.proofs.PathRanks.{each_kind}
 

@@ -5,7 +5,7 @@ use Rattle.std.proofs.Common.{refl, sym, ap, ap₂, ◌∙◌, subst}
 use Rattle.std.specs.List.{filter}
 use Rattle.std.specs.Option.{IsSomeAnd, option_map}
 use Rattle.std.proofs.lemmas.Option.{slice_get-map}
-use Rattle.open_graphs.proofs.Members.{Contains-filtered, filtered_member}
+use Rattle.list_lemmas.proofs.Members.{Contains-filtered, filtered_member}
 use Rattle.path_kinds.specs.Path.{is_inductive}
 use Rattle.question_lists.specs.Below.{Coinductive, Edge, ForcedAmbiguity, GraphNode, HasEdge, HasGoal, Inductive}
 use Rattle.question_lists.specs.Below.{IsGraph, IsProofGraph, IsReached, IsRefutationGraph, IsWalk, Overlap, PathKind}

@@ -4,7 +4,7 @@ use Rattle.std.proofs.Common.{Contains, Option, None, Some, refl, sym, ap, â—Œâˆ
 use Rattle.std.specs.Option.{IsSomeAnd, option_map}
 use Rattle.std.proofs.lemmas.Bool.Decides.{eqb_tells}
 use Rattle.std.proofs.lemmas.Option.{slice_get-get_or, get_or_from_slice_get}
-use Rattle.open_graphs.proofs.Members.{contains_later, first_or_later}
+use Rattle.list_lemmas.proofs.Members.{contains_later, first_or_later}
 use Rattle.search_context.proofs.Pigeonhole.{pigeonhole}
 use Rattle.search_context.proofs.Graphs.{Contains-map, Contains-mapped, goal_node, HasGoal-within, IsReached-step}
 use Rattle.question_lists.specs.Below.{PathKind, Edge, GraphNode, HasEdge, HasGoal, IsReached, IsGraph}

@@ -3,7 +3,7 @@ use Rattle.std.specs.Bool.{MatchBool}
 use Rattle.std.proofs.Common.{◌≡◌, ℕ, ◌<◌, Bool, true, false, cond, All, List, [], ◌∷◌, ◌++◌, length, slice_get}
 use Rattle.std.proofs.Common.{Contains, inl, inr, sym, ap, subst}
 use Rattle.std.proofs.lemmas.List.Elements.{All-contains}
-use Rattle.open_graphs.proofs.Lists.{get_cases}
+use Rattle.list_lemmas.proofs.Lists.{get_cases}
 use Rattle.reach.specs.Paths.{Block, GoDown, IsEnteredFrom}
 
 pub goes_down : (blocks : List Block) (block : Block) → GoDown blocks

@@ -9,7 +9,7 @@ use Rattle.std.proofs.lemmas.List.{length-map}
 use Rattle.std.proofs.lemmas.List.Folds.{list_any_at}
 use Rattle.std.proofs.lemmas.List.Sums.{get_or-le-sum_by}
 use Rattle.std.proofs.lemmas.Option.{slice_get_within, get_or_from_slice_get}
-use Rattle.open_graphs.proofs.Members.{contains_later, Contains-map, Contains-mapped}
+use Rattle.list_lemmas.proofs.Members.{contains_later, Contains-map, Contains-mapped}
 use Rattle.question_lists.proofs.Ranked.{IsSolution}
 use Rattle.reach.specs.Below.{Inductive, Needs, NeedsAll, NeedsAny, Question}
 use Rattle.reach.specs.Paths.{Block, GoDown, IsEnteredFrom, IsWrittenBefore, LeadsBack, Writes}

@@ -3,11 +3,11 @@ use Rattle.std.proofs.Common.{◌≡◌, ℕ, ◌<◌, List, [], ◌∷◌, map,
 use Rattle.std.proofs.Common.{Contains, refl, sym, ◌∙◌, ap, subst, arith, inl, inr}
 use Rattle.std.specs.Option.{IsSomeAnd}
 use Rattle.std.proofs.lemmas.Option.{slice_get_cases, slice_get_within, slice_get-map}
-use Rattle.open_graphs.proofs.Members.{Contains-mapped}
+use Rattle.list_lemmas.proofs.Members.{Contains-mapped}
 use Rattle.search_context.specs.Below.{greater_kind}
 use Rattle.search_context.specs.Words.{Edge, Node, goal_node_of, goal_nodes_of, GraphNode, question_of, HasGoal}
 use Rattle.search_context.specs.Words.{HasEdge, IsWalk, walk_kind, original_edge, IsCopy}
-use Rattle.open_graphs.proofs.Lists.{mapped_some}
+use Rattle.list_lemmas.proofs.Lists.{mapped_some}
 use Rattle.search_context.proofs.Graphs.{goal_node}
 
 -- what is at a place inside the list

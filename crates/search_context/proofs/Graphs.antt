@@ -4,8 +4,8 @@
 use Rattle.std.proofs.Common.{◌≡◌, ℕ, zero, suc, ◌+◌, ◌-◌, ◌<◌, List, [], ◌∷◌, ◌++◌, map, length, slice_get, Option}
 use Rattle.std.proofs.Common.{Some, option_map, Contains, refl, sym, ◌∙◌, ap, ap₂, subst, arith}
 use Rattle.std.proofs.lemmas.Option.{slice_get_within}
-pub use Rattle.open_graphs.proofs.Lists.{mapped_some}
-pub use Rattle.open_graphs.proofs.Members.{Contains-filtered, Contains-map, Contains-mapped, filtered_member}
+pub use Rattle.list_lemmas.proofs.Lists.{mapped_some}
+pub use Rattle.list_lemmas.proofs.Members.{Contains-filtered, Contains-map, Contains-mapped, filtered_member}
 use Rattle.search_context.specs.Below.{PathKind, Inductive, Coinductive, greater_kind}
 use Rattle.search_context.specs.Words.{Edge, Question, Overlap, GraphNode, question_of, HasGoal, HasEdge, IsWalk}
 use Rattle.search_context.specs.Words.{IsReached, walk_kind, IsProofGraph, IsRefutationGraph}

@@ -14,7 +14,7 @@ use Rattle.std.proofs.lemmas.List.Sorted.{All-permutation}
 use Rattle.std.proofs.lemmas.Option.{get_or_from_slice_get, slice_get-get_or, slice_get_past}
 use Rattle.std.proofs.lemmas.Option.{slice_get_read, slice_get_within}
 use Rattle.line_texts.proofs.NameLemmas.{at_end, place_in_longer, slice_get-append_left}
-use Rattle.open_graphs.proofs.Members.{Contains-map, Contains-mapped}
+use Rattle.list_lemmas.proofs.Members.{Contains-map, Contains-mapped}
 use Rattle.type_order.specs.Rule.{NeedsAll, pair, pairs_of}
 use Rattle.type_order.specs.Subtypes.{IsBelow, IsSimulation, IsSupportedPair}
 use Rattle.type_order.specs.declared.delegate.Pair.{Pair}

@@ -10,7 +10,7 @@ use Rattle.std.proofs.lemmas.List.Elements.{All-contains, All-contains_itself, A
 use Rattle.std.proofs.lemmas.List.Elements.{Contains-append_left, Contains-append_right}
 use Rattle.std.proofs.lemmas.Option.{get_or_from_slice_get, slice_get-get_or, slice_get-map}
 use native.Mathlib.Decide.{dec_lt}
-use Rattle.open_graphs.proofs.Members.{first_or_later}
+use Rattle.list_lemmas.proofs.Members.{first_or_later}
 use Rattle.candidate_lists.specs.Laws.Members.{slice_get-from_Contains}
 use Rattle.strong_components.specs.Components.{AreComponents, go, HasStep, Reaches, StaysInside, stay}
 use Rattle.strong_components.specs.Components.{successor_lists}

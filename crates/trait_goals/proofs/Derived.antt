@@ -2,7 +2,7 @@
 use Rattle.std.proofs.Common.{◌≡◌, ℕ, List, [], ◌∷◌, map, Contains, Option, None, Some, zero, suc, refl}
 use Rattle.std.proofs.Common.{sym, ap, ◌∙◌, subst, arith}
 use Rattle.std.specs.Prelude.{slice_get}
-use Rattle.open_graphs.proofs.Members.{Contains-map, Contains-mapped}
+use Rattle.list_lemmas.proofs.Members.{Contains-map, Contains-mapped}
 use Rattle.path_kinds.specs.declared.path.PathKind.{PathKind}
 use Rattle.path_kinds.specs.declared.path.PathKind.TheVariants.{Coinductive, ForcedAmbiguity}
 use Rattle.search_context.specs.Question.{IsWithin, Question}

@@ -1,7 +1,7 @@
 -- A type does not implement a trait where the number of the goal is refutable.
 use Rattle.std.proofs.Common.{◌≡◌, ℕ, List, map, Contains, Option, None, Some, refl, sym, ◌∙◌, subst, arith}
 use Rattle.std.specs.Prelude.{slice_get}
-use Rattle.open_graphs.proofs.Members.{Contains-map, Contains-mapped}
+use Rattle.list_lemmas.proofs.Members.{Contains-map, Contains-mapped}
 use Rattle.path_kinds.specs.declared.path.PathKind.TheVariants.{ForcedAmbiguity}
 use Rattle.search_context.specs.Question.{Overlap, Question}
 use Rattle.question_lists.specs.Derivations.{IsRefutable, refute}

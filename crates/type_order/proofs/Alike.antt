@@ -5,7 +5,7 @@ use Rattle.std.proofs.lemmas.Bool.{cases_Bool, eqb-true, eq-eqb}
 use Rattle.std.proofs.lemmas.List.Elements.{Contains-append_left, Contains-append_right, Contains-append_cases}
 use Rattle.std.proofs.lemmas.Option.{slice_get_cases, slice_get_past}
 use Rattle.std.proofs.Math.Nat.{min-eq_left, min-eq_right}
-use Rattle.open_graphs.proofs.Members.{Contains-map, Contains-mapped}
+use Rattle.list_lemmas.proofs.Members.{Contains-map, Contains-mapped}
 use Rattle.type_order.specs.Subtypes.{Form, IsBelow, IsRecord, IsSimulation, IsSupportedPair, IsUnion}
 use Rattle.type_order.specs.Subtypes.IsSupportedPair.{BottomLeft, TopRight, SameWord, Functions, Records}
 use Rattle.type_order.specs.Subtypes.IsSupportedPair.{EachLeft, SomeRight}

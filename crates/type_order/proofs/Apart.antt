@@ -4,7 +4,7 @@ use Rattle.std.proofs.Common.{refl, sym, ap, subst, arith}
 use Rattle.std.specs.List.{flat_map}
 use Rattle.std.proofs.lemmas.List.Concat.{flat_map-cons}
 use Rattle.std.proofs.lemmas.List.Elements.{Contains-append_left, Contains-append_right, Contains-append_cases}
-use Rattle.open_graphs.proofs.Members.{Contains-map, Contains-mapped, first_or_later}
+use Rattle.list_lemmas.proofs.Members.{Contains-map, Contains-mapped, first_or_later}
 use Rattle.type_order.specs.Fields.{Field}
 use Rattle.type_order.specs.Subtypes.{Base, Bottom, Form, Function, IsBelow, IsRecord, IsSimulation, IsSupportedPair}
 use Rattle.type_order.specs.Subtypes.{IsUnion, Record, Top, Union}

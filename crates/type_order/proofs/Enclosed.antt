@@ -10,7 +10,7 @@ use Rattle.std.proofs.lemmas.List.Elements.{All-contains_itself, All-weaker}
 use Rattle.std.proofs.lemmas.List.Elements.{Contains-append_left, Contains-append_right}
 use Rattle.std.proofs.lemmas.List.FromFn.{get_or-range_with_len, length-range_with_len}
 use Rattle.std.proofs.lemmas.List.Sums.{sum_by-le}
-use Rattle.open_graphs.proofs.Members.{Contains-map, Contains-mapped, first_or_later}
+use Rattle.list_lemmas.proofs.Members.{Contains-map, Contains-mapped, first_or_later}
 use Rattle.question_lists.specs.Told.{Contains-at}
 use Rattle.question_lists.proofs.Ranked.{asked_of, scripts}
 use Rattle.type_order.specs.Below.{AsksOnly, Coinductive, IsEnclosed, NoQuestionLeadsOut}

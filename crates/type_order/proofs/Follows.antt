@@ -5,7 +5,7 @@ use Rattle.std.proofs.Common.{Contains, Option, None, Some, is_some, refl, sym, 
 use Rattle.std.specs.List.{find}
 use Rattle.std.specs.Option.{option_map, unwrap_or}
 use Rattle.std.proofs.lemmas.Bool.{cases_Bool, eqb-true, eq-eqb}
-use Rattle.open_graphs.proofs.Members.{Contains-map, Contains-mapped, contains_later, first_or_later}
+use Rattle.list_lemmas.proofs.Members.{Contains-map, Contains-mapped, contains_later, first_or_later}
 use Rattle.type_order.specs.Below.{Needs, All, Any, Question, IsWithin, Overlap, Proves}
 use Rattle.type_order.specs.Fields.{Field, has_all, part_of}
 use Rattle.type_order.specs.Subtypes.{Base, Bottom, Form, Function, IsBelow, IsRecord, IsSimulation, IsSupportedPair}

@@ -5,7 +5,7 @@ use Rattle.std.specs.List.{find}
 use Rattle.std.specs.Option.{option_map}
 use Rattle.std.proofs.lemmas.Bool.{cases_Bool}
 use Rattle.std.proofs.lemmas.Bool.Decides.{eqb_tells}
-use Rattle.open_graphs.proofs.Members.{contains_later, first_or_later}
+use Rattle.list_lemmas.proofs.Members.{contains_later, first_or_later}
 use Rattle.type_order.specs.Fields.{Field, part_of}
 use Rattle.type_order.specs.Order.{AreDeclared}
 use Rattle.type_order.specs.Subtypes.{Base, Bottom, Form, Function, IsBelow, IsRecord, IsSimulation, IsSupportedPair}

@@ -5,7 +5,7 @@ use Rattle.std.specs.Option.{is_some, option_map, unwrap_or}
 use Rattle.std.proofs.lemmas.List.Elements.{Contains-get_or}
 use Rattle.std.proofs.lemmas.Bool.{eq-eqb}
 use Rattle.std.proofs.lemmas.Option.{get_or_from_slice_get, slice_get-map, slice_get_within}
-use Rattle.open_graphs.proofs.Members.{Contains-map, first_or_later}
+use Rattle.list_lemmas.proofs.Members.{Contains-map, first_or_later}
 use Rattle.type_order.specs.Below.{All}
 use Rattle.type_order.specs.Fields.{has_all, part_of}
 use Rattle.type_order.specs.Rule.{alternatives_in, case_between, case_of, fields_in, needs_in, NeedsAll, pair, pairs_in}

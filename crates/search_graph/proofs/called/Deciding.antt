@@ -4,7 +4,7 @@ use Rattle.std.proofs.Common.{Ok, Err, IfOk, IfErr, option_map, reverse, map, le
 use Rattle.std.proofs.Common.{unwrap_or, inl, inr, refl, ap, ap₂, sym, subst}
 use Rattle.std.specs.Option.{IfSome}
 use Rattle.std.proofs.lemmas.List.Elements.{All-nil}
-use Rattle.open_graphs.proofs.Lists.{mapped_some}
+use Rattle.list_lemmas.proofs.Lists.{mapped_some}
 use Rattle.evaluations.proofs.Mirrors.{requested_by}
 use Rattle.global_cache.proofs.Stores.{put_cases}
 use Rattle.goal_changes.specs.Entries.{cycle_head, first_entry, with_depth, with_nested_goals}

@@ -8,7 +8,7 @@ use Rattle.std.proofs.lemmas.Option.{slice_get_past}
 use Rattle.graph_nodes.proofs.Definites.{HasGraph-finished}
 use Rattle.graph_nodes.specs.Collected.{Collected}
 use Rattle.graph_nodes.specs.Held.{IsGone}
-use Rattle.open_graphs.proofs.Lists.{mapped_some}
+use Rattle.list_lemmas.proofs.Lists.{mapped_some}
 use Rattle.run_records.specs.declared.runs.Fate.{Fate}
 use Rattle.search_context.specs.Verdicts.{Verdicts}
 use Rattle.search_context.specs.declared.context.Answer.{Answer}

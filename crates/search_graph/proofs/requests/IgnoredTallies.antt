@@ -10,7 +10,7 @@ use Rattle.search_graph.specs.Below.{Includes, StackDepth, PathKind, CycleHead, 
 use Rattle.search_graph.specs.Below.{count_of, count_without, no_usages, EntryState, CanIgnore, Covers, Ignores}
 use Rattle.search_graph.specs.Below.{less_head, less_usages, IsCovered, IsTallied, candidate_at, candidates_count}
 use Rattle.search_graph.specs.Below.{counted, heads_of, tally_of, usages_of}
-use Rattle.open_graphs.proofs.Lists.{get_left, get_set_same}
+use Rattle.list_lemmas.proofs.Lists.{get_left, get_set_same}
 use Rattle.cycle_heads.proofs.Counts.{count_of-usages_by}
 use Rattle.search_rules.proofs.counts.Tallies.{Carries, KeepsPaths, candidate_within, carried, counted_by_place}
 use Rattle.search_rules.proofs.counts.Tallies.{covered_still, covers_less, none_counted, of_kind, usages_in}

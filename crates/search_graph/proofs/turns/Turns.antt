@@ -10,7 +10,7 @@ use Rattle.graph_nodes.specs.Collected.{StayBefore}
 use Rattle.global_cache.specs.Rooted.{AreRooted}
 use Rattle.graph_nodes.proofs.Finished.{found_finished}
 use Rattle.global_cache.proofs.Stores.{KeepsResults-then}
-use Rattle.open_graphs.proofs.Lists.{mapped_some}
+use Rattle.list_lemmas.proofs.Lists.{mapped_some}
 use Rattle.search_context.specs.declared.context.Answer.{Answer}
 use Rattle.search_context.specs.declared.context.Edge.{Edge}
 use Rattle.search_context.specs.Graph.{HasEdge}

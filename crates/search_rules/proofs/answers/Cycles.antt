@@ -19,7 +19,7 @@ use Rattle.search_rules.specs.Below.{no_usages, with_usage, Run, cycle_head, Ans
 use Rattle.open_graphs.specs.Stack.{IsLeaf}
 use Rattle.open_graphs.specs.Use.{Heads}
 use Rattle.open_graphs.proofs.Asked.{cycle_is_answered}
-use Rattle.open_graphs.proofs.Lists.{get_cases}
+use Rattle.list_lemmas.proofs.Lists.{get_cases}
 use Rattle.cycle_heads.proofs.HeadLists.{at_depth-first, at_depth-rest}
 use Rattle.cycle_heads.proofs.HeadShapes.{IsIn, in_head}
 use Rattle.path_kinds.proofs.PathRanks.{greater_rank}

@@ -4,7 +4,7 @@ use Rattle.std.proofs.Common.{◌≡◌, ◌≢◌, ℕ, Bool, true, false, if�
 use Rattle.std.proofs.Common.{IfErr, refl, sym, subst}
 use Rattle.std.specs.Option.{IsSomeAnd}
 use Rattle.open_graphs.specs.Graph as theory
-use Rattle.open_graphs.proofs.Lists.{mapped_some}
+use Rattle.list_lemmas.proofs.Lists.{mapped_some}
 use Rattle.search_rules.specs.Below.{AnswersStoring, Cache, Conflict, CxOf, DelegateOf, Fault, graph_nodes_of}
 use Rattle.search_rules.specs.Below.{GraphNode, IsDefinite, IsProofGraph, IsRefutationGraph, Memory, NodeId, Place}
 use Rattle.search_rules.specs.Below.{Protocol, stored_at, StoredResult, Validation, verdicts}

@@ -9,7 +9,7 @@ use Rattle.search_rules.specs.Below.{TakesIn, Includes, StackDepth, PathKind, Cy
 use Rattle.search_rules.specs.Below.{Heads, at_depth, joined_head, heads_shape, rank_of, extended, has_kind, count_of}
 use Rattle.search_rules.specs.Below.{no_usages, sticking_sum, with_nested, EntryState, TakesHeads}
 use Rattle.search_rules.specs.Below.{joined_over, usages_over}
-use Rattle.open_graphs.proofs.Lists.{get_end}
+use Rattle.list_lemmas.proofs.Lists.{get_end}
 use Rattle.cycle_heads.proofs.Counts.{count_of-usages_by}
 use Rattle.cycle_heads.proofs.HeadShapes.{IsIn, joined_after}
 use Rattle.path_kinds.proofs.PathLaws.{has_kind-union}

@@ -13,7 +13,7 @@ use Rattle.search_rules.specs.Below.{CacheNode, goal_if_open, open_node, open_go
 use Rattle.search_rules.specs.Below.{KeepsGoals, verdict_of, edge_shape, shape_of, shapes_of, DefiniteAnswer, HasGraph}
 use Rattle.search_rules.specs.Below.{counted_by, Verdicts, Beyond, IsBacked, OfAnswer, verdict_shape}
 use Rattle.open_graphs.specs.Use as theory_use
-use Rattle.open_graphs.proofs.Lists.{get_cases, get_end, get_set_other}
+use Rattle.list_lemmas.proofs.Lists.{get_cases, get_end, get_set_other}
 use Rattle.open_graphs.proofs.Verdicts.{same as same_verdicts}
 use Rattle.open_graphs.proofs.States.{push_keeps_sound, answers_keep_sound, pop_keeps_sound, rerun_keeps_sound}
 use Rattle.open_graphs.proofs.States.{start_is_sound, verdict_cases}

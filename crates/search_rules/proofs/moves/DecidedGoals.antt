@@ -6,7 +6,7 @@ use Rattle.std.specs.Option.{IfSome}
 use Rattle.std.proofs.lemmas.Grind.{reverse_onto}
 use Rattle.std.proofs.lemmas.List.{drop-map, map-append, reverse-append}
 use Rattle.open_graphs.specs.Graph as theory
-use Rattle.open_graphs.proofs.Lists.{get_cases}
+use Rattle.list_lemmas.proofs.Lists.{get_cases}
 use Rattle.search_rules.specs.Below.{PathKind, Inductive, Unknown, Coinductive, ForcedAmbiguity, Reply, OpenGoal}
 use Rattle.search_rules.specs.Below.{StackEntry, path_kind_from, IsDecidedKind, IsDecidedReply, AreDecided, IsDefinite}
 use Rattle.search_rules.specs.Below.{IsCycleResult, greater_kind, greatest_kind, is_coinductive, is_inductive, Verdicts}

@@ -5,7 +5,7 @@ use Rattle.std.specs.Cmp.{IsEquivalence}
 use Rattle.search_rules.specs.Below.{DelegateOf, CxOf, Fault, Conflict, Memory, NodeId, Place, StoredResult}
 use Rattle.search_rules.specs.Below.{EvaluationResult, Cache, AreRuns, AreSoundResults, HasGraph, Question, Validation}
 use Rattle.search_rules.specs.Below.{Overlap, Store, stored_at, place_of, stored_from, AnswersStoring, Puts, verdicts}
-use Rattle.open_graphs.proofs.Lists.{mapped_some}
+use Rattle.list_lemmas.proofs.Lists.{mapped_some}
 use Rattle.search_context.proofs.Rules.{KeepsRule}
 use Rattle.search_rules.specs.Words.{ComesTo, Conflicts, IsCaused, IsExpected, IsShown, OutOfMemory, OtherResult}
 use Rattle.search_rules.specs.Words.{OtherThanStored, StoresAnswer, Put, MayPut, Same, WithResult}

@@ -6,7 +6,7 @@ use Rattle.std.specs.List.{find}
 use Rattle.std.proofs.lemmas.Bool.{cases_eq, false≢true}
 use Rattle.std.proofs.lemmas.List.Elements.{All-contains, All-filter}
 use Rattle.global_cache.proofs.Stores.{put_cases}
-use Rattle.open_graphs.proofs.Members.{contains_later}
+use Rattle.list_lemmas.proofs.Members.{contains_later}
 use Rattle.cycle_heads.proofs.HeadLists.{at_depth-rest}
 use Rattle.goal_changes.specs.Candidates.{less_head}
 use Rattle.goal_changes.specs.NestedGoals.{NestsItself}

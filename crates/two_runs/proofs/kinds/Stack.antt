@@ -3,7 +3,7 @@ use Rattle.std.proofs.Common.{◌≡◌, ℕ, ◌+◌, ◌<◌, Bool, List, [], 
 use Rattle.std.proofs.Common.{sym, ap, ◌∙◌, subst, inl, inr, arith}
 use Rattle.std.proofs.lemmas.Grind.{reverse_onto}
 use Rattle.std.proofs.lemmas.List.{drop-append-le, drop_all, length-map, length-reverse, map-append}
-use Rattle.open_graphs.proofs.Lists.{get_cases}
+use Rattle.list_lemmas.proofs.Lists.{get_cases}
 use Rattle.search_graph.specs.Reaching.{AsksNewest, here, MayReach}
 use Rattle.two_runs.specs.Below.{greater_kind, greatest_kind, OpenGoal, path_kind_from, PathKind, Reply}
 use Rattle.two_runs.specs.Below.{Request, StackEntry}

@@ -6,7 +6,7 @@ use Rattle.std.specs.Option.{IsSomeAnd}
 use Rattle.std.proofs.lemmas.List.{length-append}
 use Rattle.std.proofs.lemmas.List.Elements.{All-contains, All-contains_itself, Contains-append_cases}
 use Rattle.global_cache.proofs.Stores.{put_cases}
-use Rattle.open_graphs.proofs.Members.{filtered_member}
+use Rattle.list_lemmas.proofs.Members.{filtered_member}
 use Rattle.provisional_cache.proofs.RebasedEntryLists.{All-filter_map}
 use Rattle.two_runs.specs.Below.{changed_for, CycleHead, entries_at, highest, Lists, NodeId, OpenGoal, place_of}
 use Rattle.two_runs.specs.Below.{ProvisionalCacheEntry, rebased, RebaseReason, StackDepth, Store, stored_from}

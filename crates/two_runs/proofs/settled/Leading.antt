@@ -6,7 +6,7 @@ use Rattle.open_graphs.specs.Stack.{IsLeaf}
 use Rattle.open_graphs.specs.Use as theory_use
 use Rattle.open_graphs.proofs.Closed.{closed_is_graph, graph_is_use, headless_reaches}
 use Rattle.open_graphs.proofs.Keep.{growth_back, growth_place}
-use Rattle.open_graphs.proofs.Lists.{mapped_some}
+use Rattle.list_lemmas.proofs.Lists.{mapped_some}
 use Rattle.open_graphs.proofs.Transfer.{same_walk}
 use Rattle.open_graphs.proofs.Walks.{carried}
 use Rattle.graph_nodes.proofs.Finished.{finished_stays, Grown-finished}

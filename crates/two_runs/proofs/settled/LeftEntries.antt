@@ -9,7 +9,7 @@ use Rattle.std.proofs.lemmas.Bool.Decides.{nat_tests}
 use Rattle.std.proofs.lemmas.List.{length-map}
 use Rattle.std.proofs.lemmas.List.Elements.{All-cons, All-contains, All-contains_itself, All-head, All-nil, All-tail}
 use Rattle.std.proofs.lemmas.List.Elements.{Contains-append_cases, Contains-append_left}
-use Rattle.open_graphs.proofs.Members.{Contains-filtered, contains_later, filtered_member, first_or_later}
+use Rattle.list_lemmas.proofs.Members.{Contains-filtered, contains_later, filtered_member, first_or_later}
 use Rattle.two_runs.specs.Below.{Ambiguity, changed_for, CycleHead, depends_on, entries_at, has_usages, HeadUsages}
 use Rattle.two_runs.specs.Below.{highest, IsRising, Lists, NoCycleUsages, NodeId, OpenGoal, other_usages, Overflow}
 use Rattle.two_runs.specs.Below.{ProvisionalCacheEntry, ReachedFixpoint, rebased, rebased_at, RebaseReason}

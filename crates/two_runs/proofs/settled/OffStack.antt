@@ -4,7 +4,7 @@ use Rattle.std.proofs.Common.{◌≡◌, ◌<◌, ◌≤◌, ℕ, Bool, false, t
 use Rattle.std.proofs.Common.{option_map, slice_get, refl, sym, ap, ◌∙◌, subst, ◌⊎◌, inl, inr, max, arith}
 use Rattle.std.specs.Option.{IfSome}
 use Rattle.open_graphs.specs.Graph as theory
-use Rattle.open_graphs.proofs.Lists.{get_cases, mapped_some}
+use Rattle.list_lemmas.proofs.Lists.{get_cases, mapped_some}
 use Rattle.two_runs.specs.Below.{CacheNode, counted_by, DefiniteAnswer, Entry, is_in_cycle, IsDefinite, KeepsGoals}
 use Rattle.two_runs.specs.Below.{Lists, NestedPaths, NodeId, OpenGoal, PathKind, paths_at, ProvisionalCacheEntry}
 use Rattle.two_runs.specs.Below.{shapes_of, stack_of, Store, StoredResult, verdict_of, verdict_shape, Verdicts}

@@ -9,7 +9,7 @@ use Rattle.open_graphs.proofs.States.{verdict_cases}
 use Rattle.open_graphs.specs.Stack.{IsLeaf}
 use Rattle.open_graphs.proofs.Keep.{leaf_cases, leaf_left}
 use Rattle.std.proofs.lemmas.Option.{slice_get_within}
-use Rattle.open_graphs.proofs.Lists.{get_end, mapped_some}
+use Rattle.list_lemmas.proofs.Lists.{get_end, mapped_some}
 use Rattle.search_rules.proofs.entries.Ready.{is_below}
 use Rattle.two_runs.specs.Below.{at_depth, CacheNode, entries_at, IsDefinite, IsNodeOf, IsRising, Lists, NodeId}
 use Rattle.two_runs.specs.Below.{OpenGoal, ProvisionalCacheEntry, Reply, Request, shapes_of, stack_of, StackDepth}

@@ -7,7 +7,7 @@ use Rattle.open_graphs.specs.Run.{Again, Answered, Anew, Running, Without}
 use Rattle.open_graphs.specs.Stack.{Entry, IsLeaf, path_kind}
 use Rattle.open_graphs.specs.Use as theory_use
 use Rattle.open_graphs.proofs.Keep.{edge_before, finish_grows, leaf_cases}
-use Rattle.open_graphs.proofs.Lists.{get_end, get_set_same}
+use Rattle.list_lemmas.proofs.Lists.{get_end, get_set_same}
 use Rattle.open_graphs.proofs.Paths.{covered_walk}
 use Rattle.open_graphs.proofs.Walks.{carried, carried_on, then_step}
 use Rattle.two_runs.specs.Leads.{StepOn, WalksTo}
