@@ -15,11 +15,13 @@
 pub mod builder;
 pub mod frames;
 pub mod goals;
+pub mod lends;
 pub mod outcome;
 
 pub use builder::Builder;
 pub use frames::{DelegateOf, Frames};
 pub use goals::{ContextOf, Goals, Outcomes};
+pub use lends::Lends;
 pub use outcome::Outcome;
 
 /// The scope of a delegate that validates no stored result: it is never given.

@@ -3,9 +3,9 @@
 ghost use Rattle.std.specs.Prelude.{◌≡◌};
 ghost use Rattle.early_scripts.specs.Early.{fresh, request_of, with_answer, with_reply};
 
-use delegate_parts::{DelegateOf, Frames, Outcome};
-use rule_tables::delegate::{LendsRules, Table};
-use rule_tables::{Candidates, Goal};
+use delegate_parts::{DelegateOf, Frames, Lends, Outcome};
+use rule_tables::delegate::Table;
+use rule_tables::{Candidates, Goal, Rules};
 use search_context::context::{NoMemory, Reply, Request};
 use std::marker::PhantomData;
 
@@ -114,7 +114,7 @@ pub type EarlyDelegate<T, const LIMIT: usize, const PROVISIONAL: usize> = Delega
     PROVISIONAL,
 >;
 
-impl<T: LendsRules> Frames for Early<T> {
+impl<T: Lends<Rules>> Frames for Early<T> {
     ghost use Rattle.std.specs.Prelude.{true};
     ghost use Rattle.early_scripts.specs.Early.{EarlyFrameStands, early_script, frame_left, steps_within};
     ghost use Rattle.early_scripts.specs.EarlyLaws as laws;
@@ -127,17 +127,17 @@ impl<T: LendsRules> Frames for Early<T> {
 
     ghost MOST_RUNS_OVERFLOW = { true };
 
-    ghost script = { early_script T.rules_of };
+    ghost script = { early_script T.lent_by };
 
-    ghost stands = { EarlyFrameStands T.rules_of };
+    ghost stands = { EarlyFrameStands T.lent_by };
 
-    ghost left = { frame_left T.rules_of };
+    ghost left = { frame_left T.lent_by };
 
-    ghost width = { λ cx. steps_within (T.rules_of cx.lender) };
+    ghost width = { λ cx. steps_within (T.lent_by cx.lender) };
 
-    ghost yes_is_proved = { λ cx. laws.yes_is_proved (T.rules_of cx.lender) };
+    ghost yes_is_proved = { λ cx. laws.yes_is_proved (T.lent_by cx.lender) };
 
-    ghost no_is_refuted = { λ cx. laws.no_is_refuted (T.rules_of cx.lender) };
+    ghost no_is_refuted = { λ cx. laws.no_is_refuted (T.lent_by cx.lender) };
 
     fn start(cx: Table<T>, input: Goal) -> Result<EarlyFrame<T>, NoMemory> {
         Ok(EarlyFrame {
@@ -151,7 +151,7 @@ impl<T: LendsRules> Frames for Early<T> {
         frame: &mut EarlyFrame<T>,
         reply: Reply<Outcome>,
     ) -> Result<Request<Goal, Outcome>, NoMemory> {
-        let candidates = frame.lender.rules().candidates(frame.goal);
+        let candidates = frame.lender.lent().candidates(frame.goal);
         frame.state = frame.state.after(&candidates, reply);
         Ok(frame.state.request(&candidates))
     }

@@ -4,28 +4,9 @@ ghost use Rattle.games.specs.Rule.{most_moves, needs_of, questions_of};
 ghost use Rattle.games.specs.Strategy.{positions_of};
 
 use crate::game::{Game, Player};
+use delegate_parts::Lends;
 use question_lists::{ListsDelegate, Needs, QuestionLists};
 use search_context::path::PathKind;
-
-/// What lends a game, as a reference does.
-pub trait LendsGame: Copy {
-    ghost use Rattle.games.specs.declared.game.Game.{Game};
-
-    /// The game that it lends.
-    ghost game_of: { Self → Game };
-
-    /// The game that it lends.
-    fn game(&self) -> &Game
-        ensures { result.now ≡ game_of self.now };
-}
-
-impl<'a> LendsGame for &'a Game {
-    ghost game_of = { λ lent. lent.now };
-
-    fn game(&self) -> &Game {
-        *self
-    }
-}
 
 /// The positions of the game that is lent, as goals: whether One wins from the position with this number.
 #[derive(Clone, Copy)]
@@ -38,32 +19,32 @@ pub type GamesDelegate<G> = ListsDelegate<PositionsOf<G>, 8, 1>;
 
 // Each move is asked, inductively, since play without end is not won. On One's turn any of them suffices, and on Two's all
 // are needed. What is no position needs any of no questions, so it is not won.
-impl<G: LendsGame> QuestionLists for PositionsOf<G> {
+impl<G: Lends<Game>> QuestionLists for PositionsOf<G> {
     ghost use Rattle.std.proofs.Common.{rules};
 
     type Input = usize;
 
-    ghost needs_of = { λ positions at. needs_of (positions_of (G.game_of positions.lender)) at };
+    ghost needs_of = { λ positions at. needs_of (positions_of (G.lent_by positions.lender)) at };
 
-    ghost questions_of = { λ positions at. questions_of (positions_of (G.game_of positions.lender)) at };
+    ghost questions_of = { λ positions at. questions_of (positions_of (G.lent_by positions.lender)) at };
 
-    ghost most = { λ positions. most_moves (positions_of (G.game_of positions.lender)) };
+    ghost most = { λ positions. most_moves (positions_of (G.lent_by positions.lender)) };
 
     ghost same_input = { Prim.search rules };
 
     fn needs(self, position: usize) -> Needs {
-        match self.lender.game().turn(position) {
+        match self.lender.lent().turn(position) {
             Some(Player::Two) => Needs::All,
             _ => Needs::Any,
         }
     }
 
     fn count(self, position: usize) -> usize {
-        self.lender.game().moves(position).len()
+        self.lender.lent().moves(position).len()
     }
 
     fn question(self, position: usize, place: usize) -> (PathKind, usize) {
-        let moves = self.lender.game().moves(position);
+        let moves = self.lender.lent().moves(position);
         let next = *moves.get(place).unwrap_or(&position); // there is one
         (PathKind::Inductive, next)
     }

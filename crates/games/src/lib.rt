@@ -17,6 +17,6 @@ mod game;
 mod solver;
 mod wins;
 
-pub use delegate::{GamesDelegate, LendsGame, PositionsOf};
+pub use delegate::{GamesDelegate, PositionsOf};
 pub use game::{Game, Player, Position};
 pub use solver::Solver;

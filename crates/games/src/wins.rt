@@ -4,9 +4,10 @@ ghost use Rattle.games.specs.Below.{Neither, No, Yes};
 ghost use Rattle.games.specs.Solved.{had_limits, solved};
 ghost use Rattle.games.specs.Strategy.{positions_of, Strategy};
 
-use crate::delegate::{GamesDelegate, LendsGame, PositionsOf};
+use crate::delegate::{GamesDelegate, PositionsOf};
+use crate::game::Game;
 use crate::solver::Solver;
-use delegate_parts::{Builder, Outcome};
+use delegate_parts::{Builder, Lends, Outcome};
 use question_lists::{ContextOf, Listed};
 use search_graph::graph::SearchGraph;
 use search_graph::law::decisive::decisive_results;
@@ -15,10 +16,10 @@ use search_parts::global_cache::GlobalCache;
 use search_parts::path::PathKind;
 use std::alloc::Global;
 
-impl<G: LendsGame> Solver<G> {
+impl<G: Lends<Game>> Solver<G> {
     /// Solves this game. It takes no memory yet.
     pub fn new(alloc: Global, game: G) -> Solver<G>
-        ensures game { solved result ≡ positions_of (G.game_of game) }
+        ensures game { solved result ≡ positions_of (G.lent_by game) }
         ensures no_limits { had_limits result ≡ false }
     {
         Solver {

@@ -4,8 +4,8 @@ ghost use Rattle.reach.specs.Analysed.{analysed};
 ghost use Rattle.reach.specs.Paths.{IsWrittenBefore};
 ghost use Rattle.reach.specs.Program.{blocks_of};
 
-use crate::delegate::{LendsProgram, Point, PointsOf, ReachDelegate};
-use delegate_parts::{Builder, Outcome};
+use crate::delegate::{Point, PointsOf, ReachDelegate};
+use delegate_parts::{Builder, Lends, Outcome};
 use question_lists::{ContextOf, Listed};
 use search_context::context::NoMemory;
 use search_graph::graph::SearchGraph;
@@ -16,16 +16,16 @@ use std::alloc::Global;
 /// Answers questions about the program that a `P` lends, as `&Program` does. What one question finds out is used in the
 /// next ones.
 #[derive(Drop)]
-pub struct Analysis<P: LendsProgram> {
+pub struct Analysis<P: Lends<Program>> {
     cache: GlobalCache<ReachDelegate<P>>,
     // Renewed for each question, which takes over the memory of the last one.
     graph: SearchGraph<ReachDelegate<P>>,
 }
 
-impl<P: LendsProgram> Analysis<P> {
+impl<P: Lends<Program>> Analysis<P> {
     /// Answers questions about this program. It takes no memory yet.
     pub fn new(alloc: Global, program: P) -> Analysis<P>
-        ensures { analysed P.program_of result ≡ blocks_of (P.program_of program) }
+        ensures { analysed P.lent_by result ≡ blocks_of (P.lent_by program) }
     {
         Analysis {
             cache: GlobalCache::new(alloc, ContextOf(Listed(PointsOf { lender: program }))),
@@ -39,8 +39,8 @@ impl<P: LendsProgram> Analysis<P> {
     /// `NoMemory` where memory is out. The analysis can be used again then.
     pub fn may_be_written(&mut self, block: usize, variable: u32) -> Result<bool, NoMemory>
         ensures exact { IfOk result (λ answer.
-            IsTrue answer ↔ IsWrittenBefore (analysed P.program_of self.old) block variable) }
-        ensures same_program { analysed P.program_of self.new ≡ analysed P.program_of self.old }
+            IsTrue answer ↔ IsWrittenBefore (analysed P.lent_by self.old) block variable) }
+        ensures same_program { analysed P.lent_by self.new ≡ analysed P.lent_by self.old }
     {
         self.graph.renew(block);
         let mut builder = Builder::new(true);

@@ -5,6 +5,7 @@ ghost use Rattle.reach.specs.Program.{blocks_of};
 ghost use Rattle.reach.specs.Rule.{most_predecessors, needs_of, predecessors_of, questions_of, writes_at};
 
 use crate::program::Program;
+use delegate_parts::Lends;
 use question_lists::{ListsDelegate, Needs, QuestionLists};
 use search_context::path::PathKind;
 
@@ -13,26 +14,6 @@ use search_context::path::PathKind;
 pub struct Point {
     pub block: usize,
     pub variable: u32,
-}
-
-/// What lends a program, as a reference does.
-pub trait LendsProgram: Copy {
-    ghost use Rattle.reach.specs.declared.program.Program.{Program};
-
-    /// The program that it lends.
-    ghost program_of: { Self → Program };
-
-    /// The program that it lends.
-    fn program(&self) -> &Program
-        ensures { result.now ≡ program_of self.now };
-}
-
-impl<'a> LendsProgram for &'a Program {
-    ghost program_of = { λ lent. lent.now };
-
-    fn program(&self) -> &Program {
-        *self
-    }
 }
 
 /// The points of the program that is lent, as goals.
@@ -60,21 +41,21 @@ impl Program {
 
 // Where a predecessor writes the variable, the point needs all of no questions, so it holds; else each predecessor is
 // asked, and any one suffices.
-impl<P: LendsProgram> QuestionLists for PointsOf<P> {
+impl<P: Lends<Program>> QuestionLists for PointsOf<P> {
     ghost use Rattle.std.proofs.Common.{rules};
 
     type Input = Point;
 
-    ghost needs_of = { λ points point. needs_of (blocks_of (P.program_of points.lender)) point };
+    ghost needs_of = { λ points point. needs_of (blocks_of (P.lent_by points.lender)) point };
 
-    ghost questions_of = { λ points point. questions_of (blocks_of (P.program_of points.lender)) point };
+    ghost questions_of = { λ points point. questions_of (blocks_of (P.lent_by points.lender)) point };
 
-    ghost most = { λ points. most_predecessors (blocks_of (P.program_of points.lender)) };
+    ghost most = { λ points. most_predecessors (blocks_of (P.lent_by points.lender)) };
 
     ghost same_input = { Prim.search rules };
 
     fn needs(self, point: Point) -> Needs {
-        if self.lender.program().is_written_before(point) {
+        if self.lender.lent().is_written_before(point) {
             Needs::All
         } else {
             Needs::Any
@@ -82,7 +63,7 @@ impl<P: LendsProgram> QuestionLists for PointsOf<P> {
     }
 
     fn count(self, point: Point) -> usize {
-        let program = self.lender.program();
+        let program = self.lender.lent();
         if program.is_written_before(point) {
             0
         } else {
@@ -93,7 +74,7 @@ impl<P: LendsProgram> QuestionLists for PointsOf<P> {
     fn question(self, point: Point, place: usize) -> (PathKind, Point) {
         let block = *self
             .lender
-            .program()
+            .lent()
             .predecessors(point.block)
             .get(place)
             .unwrap_or(&point.block); // there is one

@@ -18,5 +18,5 @@ mod program;
 
 pub use analysis::Analysis;
 pub use building::AddFault;
-pub use delegate::{LendsProgram, Point, PointsOf, ReachDelegate};
+pub use delegate::{Point, PointsOf, ReachDelegate};
 pub use program::{Block, Program};

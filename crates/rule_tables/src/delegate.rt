@@ -4,28 +4,9 @@ ghost use Rattle.std.proofs.Common.{rules};
 
 use crate::rules::{Goal, Rules};
 use candidate_lists::{CandidateFrame, CandidateLists};
-use delegate_parts::{DelegateOf, Frames, Outcome, Outcomes};
+use delegate_parts::{DelegateOf, Frames, Lends, Outcome, Outcomes};
 use search_context::context::{Cx, NoMemory, Reply, Request, Verdict};
 use search_context::path::PathKind;
-
-/// What lends a table of rules, as a reference does.
-pub trait LendsRules: Copy {
-    ghost use Rattle.rule_tables.specs.declared.rules.Rules.{Rules};
-
-    ghost rules_of: { Self → Rules };
-
-    /// The table.
-    fn rules(&self) -> &Rules
-        ensures { result.now ≡ rules_of self.now };
-}
-
-impl<'a> LendsRules for &'a Rules {
-    ghost rules_of = { λ lent. lent.now };
-
-    fn rules(&self) -> &Rules {
-        *self
-    }
-}
 
 /// A table of rules as a context.
 #[derive(Clone, Copy)]
@@ -33,7 +14,7 @@ pub struct Table<T> {
     pub lender: T,
 }
 
-impl<T: LendsRules> Cx for Table<T> {
+impl<T: Lends<Rules>> Cx for Table<T> {
     ghost use Rattle.delegate_parts.specs.Laws as laws;
     ghost use Rattle.delegate_parts.specs.Outcome as outcomes;
     ghost use Rattle.candidate_lists.specs.Laws.Meanings as meanings;
@@ -47,9 +28,9 @@ impl<T: LendsRules> Cx for Table<T> {
 
     type DepNodeIndex = u32;
 
-    ghost proves = { λ cx goal held. Proves (T.rules_of cx.lender) goal held };
+    ghost proves = { λ cx goal held. Proves (T.lent_by cx.lender) goal held };
 
-    ghost refutes = { λ cx goal failed. Refutes (T.rules_of cx.lender) goal failed };
+    ghost refutes = { λ cx goal failed. Refutes (T.lent_by cx.lender) goal failed };
 
     ghost is_yes = { outcomes.is_yes };
 
@@ -57,11 +38,11 @@ impl<T: LendsRules> Cx for Table<T> {
 
     ghost token = { λ cx goal. number_of goal };
 
-    ghost proves_more = { λ cx goal. meanings.Proves-more question_of (candidates_of (T.rules_of cx.lender) goal) };
+    ghost proves_more = { λ cx goal. meanings.Proves-more question_of (candidates_of (T.lent_by cx.lender) goal) };
 
-    ghost refutes_more = { λ cx goal. meanings.Refutes-more question_of (candidates_of (T.rules_of cx.lender) goal) };
+    ghost refutes_more = { λ cx goal. meanings.Refutes-more question_of (candidates_of (T.lent_by cx.lender) goal) };
 
-    ghost clash = { λ cx goal. meanings.clash question_of (candidates_of (T.rules_of cx.lender) goal) };
+    ghost clash = { λ cx goal. meanings.clash question_of (candidates_of (T.lent_by cx.lender) goal) };
 
     ghost one_sort = { laws.one_sort };
 
@@ -78,13 +59,13 @@ impl<T: LendsRules> Cx for Table<T> {
     }
 }
 
-impl<T: LendsRules> Outcomes for Table<T> {
+impl<T: Lends<Rules>> Outcomes for Table<T> {
     ghost use Rattle.delegate_parts.specs.Laws.{own_verdicts};
 
     ghost same_verdicts = { own_verdicts };
 }
 
-impl<T: LendsRules> CandidateLists for Table<T> {
+impl<T: Lends<Rules>> CandidateLists for Table<T> {
     ghost use Rattle.rule_tables.specs.Frame.{steps_within};
     ghost use Rattle.rule_tables.specs.Rules as table;
     ghost use Rattle.rule_tables.specs.Standing.{candidates_in};
@@ -96,22 +77,22 @@ impl<T: LendsRules> CandidateLists for Table<T> {
 
     ghost question_of = { table.question_of };
 
-    ghost candidates_of = { candidates_in T.rules_of };
+    ghost candidates_of = { candidates_in T.lent_by };
 
-    ghost most = { λ cx. steps_within (T.rules_of cx.lender) };
+    ghost most = { λ cx. steps_within (T.lent_by cx.lender) };
 
     ghost same_input = { Prim.search rules };
 
     // These two are called in several places of a step, and so not inlined unasked.
     #[inline(always)]
     fn mark(self, goal: Goal, candidate: usize) -> Option<bool> {
-        let candidate = self.lender.rules().candidates(goal).get(candidate)?;
+        let candidate = self.lender.lent().candidates(goal).get(candidate)?;
         Some(candidate.is_marked())
     }
 
     #[inline(always)]
     fn question(self, goal: Goal, candidate: usize, place: usize) -> Option<(PathKind, Goal)> {
-        let candidate = self.lender.rules().candidates(goal).get(candidate)?;
+        let candidate = self.lender.lent().candidates(goal).get(candidate)?;
         let asking = candidate.question(place)?;
         Some((asking.kind, asking.goal))
     }
@@ -135,7 +116,7 @@ pub type TableDelegate<'a, const LIMIT: usize, const PROVISIONAL: usize> = Rules
     PROVISIONAL,
 >;
 
-impl<T: LendsRules> Frames for Table<T> {
+impl<T: Lends<Rules>> Frames for Table<T> {
     ghost use Rattle.std.specs.Prelude.{true};
     ghost use Rattle.candidate_lists.specs.Laws.Runs as runs;
     ghost use Rattle.rule_tables.specs.Frame.{steps_within};
@@ -150,17 +131,17 @@ impl<T: LendsRules> Frames for Table<T> {
 
     ghost MOST_RUNS_OVERFLOW = { true };
 
-    ghost script = { table_script T.rules_of };
+    ghost script = { table_script T.lent_by };
 
-    ghost stands = { FrameStands T.rules_of };
+    ghost stands = { FrameStands T.lent_by };
 
-    ghost left = { frame_left T.rules_of };
+    ghost left = { frame_left T.lent_by };
 
-    ghost width = { λ cx. steps_within (T.rules_of cx.lender) };
+    ghost width = { λ cx. steps_within (T.lent_by cx.lender) };
 
-    ghost yes_is_proved = { λ cx goal. runs.yes_is_proved question_of (candidates_of (T.rules_of cx.lender) goal) };
+    ghost yes_is_proved = { λ cx goal. runs.yes_is_proved question_of (candidates_of (T.lent_by cx.lender) goal) };
 
-    ghost no_is_refuted = { λ cx goal. runs.no_is_refuted question_of (candidates_of (T.rules_of cx.lender) goal) };
+    ghost no_is_refuted = { λ cx goal. runs.no_is_refuted question_of (candidates_of (T.lent_by cx.lender) goal) };
 
     fn start(cx: Table<T>, input: Goal) -> Result<TableFrame<T>, NoMemory> {
         Ok(CandidateFrame::new(cx, input))

@@ -3,8 +3,9 @@ ghost use Rattle.std.specs.Prelude.{◌≡◌, Ok};
 ghost use Rattle.services.specs.Below.{No, Yes};
 ghost use Rattle.services.specs.Running.{CanRun};
 
-use crate::delegate::{LendsServices, RunsOf, ServicesDelegate};
-use delegate_parts::{Builder, Outcome};
+use crate::delegate::{RunsOf, ServicesDelegate};
+use crate::service::Service;
+use delegate_parts::{Builder, Lends, Outcome};
 use question_lists::{ContextOf, Listed};
 use search_graph::graph::SearchGraph;
 use search_parts::context::{Fault, Verdict};
@@ -16,14 +17,14 @@ use std::alloc::Global;
 /// services may stand below this one on the way to an answer; as many as there are suffice.
 ///
 /// `Fault::Memory` where memory is out.
-pub fn can_run<S: LendsServices>(
+pub fn can_run<S: Lends<[Service]>>(
     alloc: Global,
     services: S,
     number: usize,
     depth: usize,
 ) -> Result<Verdict, Fault<usize, Outcome>>
-    ensures yes { result ≡ Ok Yes → CanRun (S.services_of services) number }
-    ensures no { result ≡ Ok No → CanRun (S.services_of services) number → ⊥ }
+    ensures yes { result ≡ Ok Yes → CanRun (S.lent_by services) number }
+    ensures no { result ≡ Ok No → CanRun (S.lent_by services) number → ⊥ }
 {
     let context = ContextOf(Listed(RunsOf { lender: services }));
     let mut cache = GlobalCache::<ServicesDelegate<S>>::new(alloc, context);

@@ -3,29 +3,9 @@ ghost use Rattle.std.specs.Prelude.{◌≡◌};
 ghost use Rattle.services.specs.Rule.{most_needs, needs_of, questions_of};
 
 use crate::service::{Service, needs_at};
+use delegate_parts::Lends;
 use question_lists::{ListsDelegate, Needs, QuestionLists};
 use search_context::path::PathKind;
-
-/// What lends services, as a reference does.
-pub trait LendsServices: Copy {
-    ghost use Rattle.std.specs.Prelude.{List};
-    ghost use Rattle.services.specs.declared.service.Service.{Service};
-
-    /// The services that it lends.
-    ghost services_of: { Self → List Service };
-
-    /// The services that it lends.
-    fn services(&self) -> &[Service]
-        ensures { result.now ≡ services_of self.now };
-}
-
-impl<'a> LendsServices for &'a [Service] {
-    ghost services_of = { λ lent. lent.now };
-
-    fn services(&self) -> &[Service] {
-        *self
-    }
-}
 
 /// The services that are lent, as goals: whether the one with this number can run.
 #[derive(Clone, Copy)]
@@ -37,32 +17,32 @@ pub struct RunsOf<S> {
 pub type ServicesDelegate<S> = ListsDelegate<RunsOf<S>, 8, 1>;
 
 // A service needs all that it needs. What is no service needs any of no questions, so it can't run.
-impl<S: LendsServices> QuestionLists for RunsOf<S> {
+impl<S: Lends<[Service]>> QuestionLists for RunsOf<S> {
     ghost use Rattle.std.proofs.Common.{rules};
 
     type Input = usize;
 
-    ghost needs_of = { λ runs number. needs_of (S.services_of runs.lender) number };
+    ghost needs_of = { λ runs number. needs_of (S.lent_by runs.lender) number };
 
-    ghost questions_of = { λ runs number. questions_of (S.services_of runs.lender) number };
+    ghost questions_of = { λ runs number. questions_of (S.lent_by runs.lender) number };
 
-    ghost most = { λ runs. most_needs (S.services_of runs.lender) };
+    ghost most = { λ runs. most_needs (S.lent_by runs.lender) };
 
     ghost same_input = { Prim.search rules };
 
     fn needs(self, number: usize) -> Needs {
-        match self.lender.services().get(number) {
+        match self.lender.lent().get(number) {
             Some(_) => Needs::All,
             None => Needs::Any,
         }
     }
 
     fn count(self, number: usize) -> usize {
-        needs_at(self.lender.services(), number).len()
+        needs_at(self.lender.lent(), number).len()
     }
 
     fn question(self, number: usize, place: usize) -> (PathKind, usize) {
-        match needs_at(self.lender.services(), number).get(place) {
+        match needs_at(self.lender.lent(), number).get(place) {
             Some(need) => (need.kind(), need.service),
             None => (PathKind::Inductive, number), // there is one
         }

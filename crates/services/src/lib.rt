@@ -17,5 +17,5 @@ mod delegate;
 mod service;
 
 pub use answer::can_run;
-pub use delegate::{LendsServices, RunsOf, ServicesDelegate};
+pub use delegate::{RunsOf, ServicesDelegate};
 pub use service::{Need, Service, needs_at};

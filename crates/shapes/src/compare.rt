@@ -5,8 +5,9 @@ ghost use Rattle.shapes.specs.Bisimulation.{AreEqual, equations_of};
 ghost use Rattle.shapes.specs.Compared.{compared, had_limits};
 
 use crate::comparison::Comparison;
-use crate::delegate::{LendsShapes, Pair, PairsOf, ShapesDelegate};
-use delegate_parts::{Builder, Outcome};
+use crate::delegate::{Pair, PairsOf, ShapesDelegate};
+use crate::equations::Shapes;
+use delegate_parts::{Builder, Lends, Outcome};
 use question_lists::{ContextOf, Listed};
 use search_graph::graph::SearchGraph;
 use search_graph::law::decisive::decisive_results;
@@ -15,10 +16,10 @@ use search_parts::global_cache::GlobalCache;
 use search_parts::path::PathKind;
 use std::alloc::Global;
 
-impl<S: LendsShapes> Comparison<S> {
+impl<S: Lends<Shapes>> Comparison<S> {
     /// Compares these shapes. It takes no memory yet.
     pub fn new(alloc: Global, shapes: S) -> Comparison<S>
-        ensures shapes { compared result ≡ equations_of (S.shapes_of shapes) }
+        ensures shapes { compared result ≡ equations_of (S.lent_by shapes) }
         ensures no_limits { had_limits result ≡ false }
     {
         Comparison {

@@ -2,13 +2,15 @@
 ghost use Rattle.std.specs.Prelude.{◌≡◌, false};
 ghost use Rattle.shapes.specs.Below.{AreDefinite, outcome_verdicts};
 
-use crate::delegate::{LendsShapes, Pair, ShapesDelegate};
+use crate::delegate::{Pair, ShapesDelegate};
+use crate::equations::Shapes;
+use delegate_parts::Lends;
 use search_parts::global_cache::GlobalCache;
 use std::alloc::Global;
 
 /// Compares the shapes that an `S` lends, as `&Shapes` does. What one question finds out is used in the next ones.
 #[derive(Drop)]
-pub struct Comparison<S: LendsShapes> {
+pub struct Comparison<S: Lends<Shapes>> {
     pub(crate) cache: GlobalCache<ShapesDelegate<S>>,
     pub(crate) limits_met: bool,
     pub(crate) alloc: Global,

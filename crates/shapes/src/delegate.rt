@@ -5,6 +5,7 @@ ghost use Rattle.shapes.specs.Bisimulation.{equations_of};
 ghost use Rattle.shapes.specs.Rule.{matched_parts, most_parts, needs_of, parts_at, questions_of};
 
 use crate::equations::Shapes;
+use delegate_parts::Lends;
 use question_lists::{ListsDelegate, Needs, QuestionLists};
 use search_context::path::PathKind;
 
@@ -13,26 +14,6 @@ use search_context::path::PathKind;
 pub struct Pair {
     pub left: usize,
     pub right: usize,
-}
-
-/// What lends shapes, as a reference does.
-pub trait LendsShapes: Copy {
-    ghost use Rattle.shapes.specs.declared.equations.Shapes.{Shapes};
-
-    /// The shapes that it lends.
-    ghost shapes_of: { Self → Shapes };
-
-    /// The shapes that it lends.
-    fn shapes(&self) -> &Shapes
-        ensures { result.now ≡ shapes_of self.now };
-}
-
-impl<'a> LendsShapes for &'a Shapes {
-    ghost shapes_of = { λ lent. lent.now };
-
-    fn shapes(&self) -> &Shapes {
-        *self
-    }
 }
 
 /// The pairs of the shapes that are lent, as goals.
@@ -73,35 +54,35 @@ impl Shapes {
 
 // Where labels and numbers of parts agree, each part is asked against its fellow, coinductively; else the pair is
 // refuted at once, as one that needs any of no questions.
-impl<S: LendsShapes> QuestionLists for PairsOf<S> {
+impl<S: Lends<Shapes>> QuestionLists for PairsOf<S> {
     ghost use Rattle.std.proofs.Common.{rules};
 
     type Input = Pair;
 
-    ghost needs_of = { λ pairs pair. needs_of (equations_of (S.shapes_of pairs.lender)) pair };
+    ghost needs_of = { λ pairs pair. needs_of (equations_of (S.lent_by pairs.lender)) pair };
 
-    ghost questions_of = { λ pairs pair. questions_of (equations_of (S.shapes_of pairs.lender)) pair };
+    ghost questions_of = { λ pairs pair. questions_of (equations_of (S.lent_by pairs.lender)) pair };
 
-    ghost most = { λ pairs. most_parts (equations_of (S.shapes_of pairs.lender)) };
+    ghost most = { λ pairs. most_parts (equations_of (S.lent_by pairs.lender)) };
 
     ghost same_input = { Prim.search rules };
 
     fn needs(self, pair: Pair) -> Needs {
-        match self.lender.shapes().matched_parts(pair) {
+        match self.lender.lent().matched_parts(pair) {
             Some(_) => Needs::All,
             None => Needs::Any,
         }
     }
 
     fn count(self, pair: Pair) -> usize {
-        match self.lender.shapes().matched_parts(pair) {
+        match self.lender.lent().matched_parts(pair) {
             Some((left, _)) => left.len(),
             None => 0,
         }
     }
 
     fn question(self, pair: Pair, place: usize) -> (PathKind, Pair) {
-        let asked = self.lender.shapes().parts_at(pair, place).unwrap_or(pair); // there is one
+        let asked = self.lender.lent().parts_at(pair, place).unwrap_or(pair); // there is one
         (PathKind::Coinductive, asked)
     }
 }

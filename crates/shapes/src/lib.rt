@@ -19,5 +19,5 @@ mod delegate;
 mod equations;
 
 pub use comparison::Comparison;
-pub use delegate::{LendsShapes, Pair, PairsOf, ShapesDelegate};
+pub use delegate::{Pair, PairsOf, ShapesDelegate};
 pub use equations::{Equation, Shapes};

@@ -6,7 +6,7 @@ ghost use Rattle.structural_types.specs.Below.{IsCaused, IsProved, IsRefuted, Me
 ghost use Rattle.structural_types.specs.Deciding.{EndsDecided, KeepsDeciding};
 
 use crate::subtyping::{Subtyping, TypesDelegate};
-use delegate_parts::{Builder, ContextOf, Outcome};
+use delegate_parts::{Builder, ContextOf, Lends, Outcome};
 use question_lists::Listed;
 use search_graph::graph::SearchGraph;
 use search_parts::context::{Answer, Cx, Delegate, Fault};
@@ -14,27 +14,27 @@ use search_parts::global_cache::GlobalCache;
 use search_parts::path::PathKind;
 use std::alloc::Global;
 use two_runs::law::{nothing_is_settled, two_runs};
-use type_order::{LendsTypes, Pair, PairsOf};
+use type_order::{Pair, PairsOf, Types};
 
 // A cache that has no answers yet.
-fn empty_cache<T: LendsTypes>(alloc: Global, types: T) -> GlobalCache<TypesDelegate<T>>
+fn empty_cache<T: Lends<Types>>(alloc: Global, types: T) -> GlobalCache<TypesDelegate<T>>
     ensures same_types { result.cx.0.0.lender ≡ types }
-    ensures ready { KeepsDeciding ⟦<Pair as PartialEq>⟧.eq (forms_of (T.types_of types)) result }
+    ensures ready { KeepsDeciding ⟦<Pair as PartialEq>⟧.eq (forms_of (T.lent_by types)) result }
 {
     nothing_is_settled::<TypesDelegate<T>>();
     GlobalCache::new(alloc, ContextOf(Listed(PairsOf { lender: types })))
 }
 
 // A graph without goals. It is renewed before it is asked.
-fn empty_graph<T: LendsTypes>(alloc: Global) -> SearchGraph<TypesDelegate<T>> {
+fn empty_graph<T: Lends<Types>>(alloc: Global) -> SearchGraph<TypesDelegate<T>> {
     SearchGraph::new(alloc, usize::MAX)
 }
 
 // How many types are declared.
-fn declared_count<T: LendsTypes>(cache: &GlobalCache<TypesDelegate<T>>) -> usize
-    ensures { result ≡ length (forms_of (T.types_of cache.now.cx.0.0.lender)) }
+fn declared_count<T: Lends<Types>>(cache: &GlobalCache<TypesDelegate<T>>) -> usize
+    ensures { result ≡ length (forms_of (T.lent_by cache.now.cx.0.0.lender)) }
 {
-    cache.cx().0.0.lender.types().count()
+    cache.cx().0.0.lender.lent().count()
 }
 
 // Evaluates a goal with all the depth that there is: no more goals can be nested.
@@ -61,21 +61,21 @@ fn evaluated<D: Delegate>(
 }
 
 // Whether the left type of the pair is below its right one.
-fn asked<T: LendsTypes>(
+fn asked<T: Lends<Types>>(
     cache: &mut GlobalCache<TypesDelegate<T>>,
     graph: &mut SearchGraph<TypesDelegate<T>>,
     pair: Pair,
 ) -> Result<bool, Fault<Pair, Outcome>>
-    requires left { pair.left ≤ length (forms_of (T.types_of cache.old.cx.0.0.lender)) }
-    requires right { pair.right ≤ length (forms_of (T.types_of cache.old.cx.0.0.lender)) }
+    requires left { pair.left ≤ length (forms_of (T.lent_by cache.old.cx.0.0.lender)) }
+    requires right { pair.right ≤ length (forms_of (T.lent_by cache.old.cx.0.0.lender)) }
     requires ready { ∥ KeepsDeciding ⟦<Pair as PartialEq>⟧.eq
-        (forms_of (T.types_of cache.old.cx.0.0.lender)) cache.old ∥₁ }
+        (forms_of (T.lent_by cache.old.cx.0.0.lender)) cache.old ∥₁ }
     ensures exact { IfOk result (λ answer. (answer ≡ true)
-        ↔ IsBelow (forms_of (T.types_of cache.old.cx.0.0.lender)) pair.left pair.right) }
+        ↔ IsBelow (forms_of (T.lent_by cache.old.cx.0.0.lender)) pair.left pair.right) }
     ensures faults { IfErr result (λ fault. fault ≡ Memory) }
     ensures same_context { cache.new.cx ≡ cache.old.cx }
     ensures ready { ∥ KeepsDeciding ⟦<Pair as PartialEq>⟧.eq
-        (forms_of (T.types_of cache.old.cx.0.0.lender)) cache.new ∥₁ }
+        (forms_of (T.lent_by cache.old.cx.0.0.lender)) cache.new ∥₁ }
 {
     let mut builder = Builder::new(true);
     match evaluated(cache, graph, pair, &mut builder) {
@@ -84,10 +84,10 @@ fn asked<T: LendsTypes>(
     }
 }
 
-impl<T: LendsTypes> Subtyping<T> {
+impl<T: Lends<Types>> Subtyping<T> {
     /// Questions about these types. It takes no memory yet.
     pub fn new(alloc: Global, types: T) -> Subtyping<T>
-        ensures types { declared_in T.types_of result ≡ forms_of (T.types_of types) }
+        ensures types { declared_in T.lent_by result ≡ forms_of (T.lent_by types) }
     {
         Subtyping {
             cache: empty_cache(alloc, types),
@@ -102,9 +102,9 @@ impl<T: LendsTypes> Subtyping<T> {
     /// can be asked.
     pub fn is_below(&mut self, left: usize, right: usize) -> Result<bool, Fault<Pair, Outcome>>
         ensures exact { IfOk result (λ answer. (answer ≡ true)
-            ↔ IsBelow (declared_in T.types_of self.old) left right) }
+            ↔ IsBelow (declared_in T.lent_by self.old) left right) }
         ensures faults { IfErr result (λ fault. fault ≡ Memory) }
-        ensures same_types { declared_in T.types_of self.new ≡ declared_in T.types_of self.old }
+        ensures same_types { declared_in T.lent_by self.new ≡ declared_in T.lent_by self.old }
     {
         // all numbers that are not declared are alike
         let undeclared = declared_count(&self.cache);

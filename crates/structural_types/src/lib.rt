@@ -15,4 +15,4 @@ mod ask;
 mod subtyping;
 
 pub use subtyping::{Subtyping, TypesDelegate};
-pub use type_order::{Field, Form, LendsTypes, Pair, PairsOf, Types};
+pub use type_order::{Field, Form, Pair, PairsOf, Types};

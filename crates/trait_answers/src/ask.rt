@@ -7,19 +7,19 @@ ghost use Rattle.trait_answers.specs.Deciding.{EndsDecided, EndsTold, KeepsDecid
 
 use crate::answers::{Answered, Answers};
 use candidate_lists::{AnyOf, ContextOf};
-use delegate_parts::{Builder, Outcome};
+use delegate_parts::{Builder, Lends, Outcome};
 use search_graph::graph::SearchGraph;
 use search_parts::context::{Answer, Cx, Delegate, Fault};
 use search_parts::global_cache::GlobalCache;
 use search_parts::path::PathKind;
 use std::alloc::Global;
-use trait_goals::{GoalsDelegate, GoalsOf, LendsGoals};
+use trait_goals::{Goals, GoalsDelegate, GoalsOf};
 use two_runs::law::{nothing_is_settled, two_runs};
 
 // A cache that has no answers yet.
-fn empty_cache<L: LendsGoals>(alloc: Global, lender: L) -> GlobalCache<GoalsDelegate<L>>
+fn empty_cache<L: Lends<Goals>>(alloc: Global, lender: L) -> GlobalCache<GoalsDelegate<L>>
     ensures same_goals { result.cx.0.0.lender ≡ lender }
-    ensures ready { KeepsDeciding ⟦<usize as PartialEq>⟧.eq (L.table_of lender) result }
+    ensures ready { KeepsDeciding ⟦<usize as PartialEq>⟧.eq (L.lent_by lender) result }
 {
     nothing_is_settled::<GoalsDelegate<L>>();
     GlobalCache::new(alloc, ContextOf(AnyOf(GoalsOf { lender })))
@@ -49,23 +49,23 @@ fn evaluated<D: Delegate>(
 }
 
 // Asks a goal at a depth.
-fn asked<L: LendsGoals>(
+fn asked<L: Lends<Goals>>(
     cache: &mut GlobalCache<GoalsDelegate<L>>,
     graph: &mut SearchGraph<GoalsDelegate<L>>,
     goal: usize,
     depth: usize,
 ) -> Result<Answered, Fault<usize, Outcome>>
     ensures yes { IfOk result (λ answered. answered.outcome ≡ Yes →
-        IsImplemented (L.table_of cache.old.cx.0.0.lender) goal) }
+        IsImplemented (L.lent_by cache.old.cx.0.0.lender) goal) }
     ensures no { IfOk result (λ answered. answered.outcome ≡ No →
-        IsNotImplemented (L.table_of cache.old.cx.0.0.lender) goal) }
-    ensures told { CanBeTold (L.table_of cache.old.cx.0.0.lender) goal depth →
-        KeepsDeciding ⟦<usize as PartialEq>⟧.eq (L.table_of cache.old.cx.0.0.lender) cache.old →
-        EndsTold ⟦<usize as PartialEq>⟧.eq (L.table_of cache.old.cx.0.0.lender) result cache.new }
+        IsNotImplemented (L.lent_by cache.old.cx.0.0.lender) goal) }
+    ensures told { CanBeTold (L.lent_by cache.old.cx.0.0.lender) goal depth →
+        KeepsDeciding ⟦<usize as PartialEq>⟧.eq (L.lent_by cache.old.cx.0.0.lender) cache.old →
+        EndsTold ⟦<usize as PartialEq>⟧.eq (L.lent_by cache.old.cx.0.0.lender) result cache.new }
     ensures same_context { cache.new.cx ≡ cache.old.cx }
 {
     // This is asked for what it ensures of all goals alone.
-    let _asked = cache.cx().0.0.lender.goals().asked(goal);
+    let _asked = cache.cx().0.0.lender.lent().asked(goal);
     graph.renew(depth);
     let mut builder = Builder::new(true);
     match evaluated(cache, graph, goal, &mut builder) {
@@ -84,10 +84,10 @@ fn has_depth(had_depth: bool, count: usize, depth: usize) -> bool
     had_depth && count <= depth
 }
 
-impl<L: LendsGoals> Answers<L> {
+impl<L: Lends<Goals>> Answers<L> {
     /// Answers about the goals that are lent. It takes no memory yet.
     pub fn new(alloc: Global, lender: L) -> Answers<L>
-        ensures goals { known_by L.table_of result ≡ L.table_of lender }
+        ensures goals { known_by L.lent_by result ≡ L.lent_by lender }
         ensures deep { result.had_depth ≡ true }
     {
         Answers {
@@ -111,20 +111,20 @@ impl<L: LendsGoals> Answers<L> {
         depth: usize,
     ) -> Result<Answered, Fault<usize, Outcome>>
         ensures yes { IfOk result (λ answered. answered.outcome ≡ Yes →
-            IsImplemented (known_by L.table_of self.old) goal) }
+            IsImplemented (known_by L.lent_by self.old) goal) }
         ensures no { IfOk result (λ answered. answered.outcome ≡ No →
-            IsNotImplemented (known_by L.table_of self.old) goal) }
-        ensures told { self.old.had_depth ≡ true → CanBeTold (known_by L.table_of self.old) goal depth →
-            IfOk result (λ answered. IsTold (known_by L.table_of self.old) goal answered.outcome) }
-        ensures unmet { self.old.had_depth ≡ true → CanBeTold (known_by L.table_of self.old) goal depth →
+            IsNotImplemented (known_by L.lent_by self.old) goal) }
+        ensures told { self.old.had_depth ≡ true → CanBeTold (known_by L.lent_by self.old) goal depth →
+            IfOk result (λ answered. IsTold (known_by L.lent_by self.old) goal answered.outcome) }
+        ensures unmet { self.old.had_depth ≡ true → CanBeTold (known_by L.lent_by self.old) goal depth →
             IfOk result (λ answered. answered.limits_met ≡ false) }
         ensures faults { self.old.had_depth ≡ true →
-            CanBeTold (known_by L.table_of self.old) goal depth → IfErr result (λ fault. fault ≡ Memory) }
+            CanBeTold (known_by L.lent_by self.old) goal depth → IfErr result (λ fault. fault ≡ Memory) }
         ensures deep { self.new.had_depth ≡ (self.old.had_depth
-            && nat_le (length (known_by L.table_of self.old).asked) depth) }
-        ensures same_goals { known_by L.table_of self.new ≡ known_by L.table_of self.old }
+            && nat_le (length (known_by L.lent_by self.old).asked) depth) }
+        ensures same_goals { known_by L.lent_by self.new ≡ known_by L.lent_by self.old }
     {
-        let count = self.cache.cx().0.0.lender.goals().len();
+        let count = self.cache.cx().0.0.lender.lent().len();
         self.had_depth = has_depth(self.had_depth, count, depth);
         if goal >= count {
             return Ok(Answered {
@@ -145,11 +145,11 @@ impl<L: LendsGoals> Answers<L> {
     /// Whether the candidates of the goal are not known, and a question so far came to it: a result
     /// of the goal is stored.
     pub fn was_wanted(&self, goal: usize) -> bool
-        ensures { result ≡ was_wanted L.table_of ⟦<usize as PartialEq>⟧.eq self.now goal }
+        ensures { result ≡ was_wanted L.lent_by ⟦<usize as PartialEq>⟧.eq self.now goal }
     {
         // A goal that asks itself alone is cut off with no depth left, and with no other one.
         let lender = self.cache.cx().0.0.lender;
-        let is_known = lender.goals().candidates(goal).is_some();
+        let is_known = lender.lent().candidates(goal).is_some();
         let cache = &self.cache;
         !is_known && (cache.success_of(goal).is_some() || cache.overflow_at(goal, 0).is_some())
     }

@@ -4,27 +4,8 @@ ghost use Rattle.trait_goals.specs.Rule.{candidates_of, most_steps};
 
 use crate::goals::Goals;
 use candidate_lists::{CandidateLists, CandidatesDelegate};
+use delegate_parts::Lends;
 use search_context::path::PathKind;
-
-/// What lends goals, as a reference does.
-pub trait LendsGoals: Copy {
-    ghost use Rattle.trait_goals.specs.Known.{Table};
-
-    /// What is known of the goals that it lends.
-    ghost table_of: { Self → Table };
-
-    /// The goals that it lends.
-    fn goals(&self) -> &Goals
-        ensures { result.now ≡ table_of self.now };
-}
-
-impl<'a> LendsGoals for &'a Goals {
-    ghost table_of = { λ lent. lent.now };
-
-    fn goals(&self) -> &Goals {
-        *self
-    }
-}
 
 /// The goals that are lent, each by its number.
 #[derive(Clone, Copy)]
@@ -38,7 +19,7 @@ pub type GoalsDelegate<L> = CandidatesDelegate<GoalsOf<L>, 8, 1>;
 // Each known candidate asks its goals by the kind of the trait. A goal whose candidates are not
 // known has one, which asks the goal itself by forced ambiguity, and so says maybe. A number that is
 // no goal's has none.
-impl<L: LendsGoals> CandidateLists for GoalsOf<L> {
+impl<L: Lends<Goals>> CandidateLists for GoalsOf<L> {
     ghost use Rattle.std.proofs.Common.{rules};
     ghost use Rattle.std.specs.Prelude.{ℕ};
     ghost use Rattle.search_context.specs.Question.{Question};
@@ -49,14 +30,14 @@ impl<L: LendsGoals> CandidateLists for GoalsOf<L> {
 
     ghost question_of = { λ asked. asked };
 
-    ghost candidates_of = { λ goals number. candidates_of (L.table_of goals.lender) number };
+    ghost candidates_of = { λ goals number. candidates_of (L.lent_by goals.lender) number };
 
-    ghost most = { λ goals. most_steps (L.table_of goals.lender) };
+    ghost most = { λ goals. most_steps (L.lent_by goals.lender) };
 
     ghost same_input = { Prim.search rules };
 
     fn mark(self, goal: usize, candidate: usize) -> Option<bool> {
-        let goals = self.lender.goals();
+        let goals = self.lender.lent();
         match goals.candidates(goal) {
             Some(known) => {
                 let _candidate = known.all.get(candidate)?;
@@ -71,7 +52,7 @@ impl<L: LendsGoals> CandidateLists for GoalsOf<L> {
     }
 
     fn question(self, goal: usize, candidate: usize, place: usize) -> Option<(PathKind, usize)> {
-        let goals = self.lender.goals();
+        let goals = self.lender.lent();
         match goals.candidates(goal) {
             Some(known) => {
                 let candidate = known.all.get(candidate)?;

@@ -24,6 +24,6 @@ mod scout;
 mod trying;
 
 pub use asked::{Asked, Candidate, Candidates};
-pub use delegate::{GoalsDelegate, GoalsOf, LendsGoals};
+pub use delegate::{GoalsDelegate, GoalsOf};
 pub use goals::Goals;
 pub use scout::make_known;

@@ -4,10 +4,11 @@ ghost use Rattle.trait_answers.specs.Answered.{CanBeTold};
 ghost use Rattle.trait_answers.specs.Asking.{known_by};
 ghost use Rattle.traits.specs.Right.{AreAnsweredAt, AreRight, IsAnswered, IsRight};
 
+use delegate_parts::Lends;
 use search_context::context::NoMemory;
 use std::alloc::Global;
 use trait_answers::Answers;
-use trait_goals::{Goals, LendsGoals, make_known};
+use trait_goals::{Goals, make_known};
 use trait_pages::Came;
 
 /// What the questions came to.
@@ -29,29 +30,29 @@ const MOST: usize = 1 << 20;
 const MORE: usize = 16;
 
 // Asks a goal.
-fn ask<L: LendsGoals>(answers: &mut Answers<L>, goal: usize, depth: usize) -> Came
-    ensures right { IsRight (known_by L.table_of answers.old) goal result }
-    ensures told { answers.old.had_depth ≡ true → CanBeTold (known_by L.table_of answers.old) goal depth →
-        IsAnswered (known_by L.table_of answers.old) goal result }
+fn ask<L: Lends<Goals>>(answers: &mut Answers<L>, goal: usize, depth: usize) -> Came
+    ensures right { IsRight (known_by L.lent_by answers.old) goal result }
+    ensures told { answers.old.had_depth ≡ true → CanBeTold (known_by L.lent_by answers.old) goal depth →
+        IsAnswered (known_by L.lent_by answers.old) goal result }
     ensures deep { answers.new.had_depth ≡ (answers.old.had_depth
-        && nat_le (length (known_by L.table_of answers.old).asked) depth) }
-    ensures same_goals { known_by L.table_of answers.new ≡ known_by L.table_of answers.old }
+        && nat_le (length (known_by L.lent_by answers.old).asked) depth) }
+    ensures same_goals { known_by L.lent_by answers.new ≡ known_by L.lent_by answers.old }
 {
     let answered = answers.implements(goal, depth)?;
     Ok(answered.outcome)
 }
 
 // Asks each of these goals.
-fn ask_all<L: LendsGoals>(
+fn ask_all<L: Lends<Goals>>(
     alloc: Global,
     lender: L,
     count: usize,
     asked: &[usize],
     depth: usize,
 ) -> Result<Round, NoMemory>
-    ensures right { IfOk result (λ round. AreRight (L.table_of lender) asked.now round.came.items) }
+    ensures right { IfOk result (λ round. AreRight (L.lent_by lender) asked.now round.came.items) }
     ensures told { IfOk result (λ round.
-        AreAnsweredAt depth (L.table_of lender) asked.now round.came.items) }
+        AreAnsweredAt depth (L.lent_by lender) asked.now round.came.items) }
     ensures count { IfOk result (λ round. length round.came.items ≡ length asked.now) }
 {
     let mut answers = Answers::<L>::new(alloc, lender);
@@ -65,7 +66,7 @@ fn ask_all<L: LendsGoals>(
 }
 
 // The goals, of so many, that were worked out, and whose candidates are not known.
-fn find_wanted<L: LendsGoals>(
+fn find_wanted<L: Lends<Goals>>(
     alloc: Global,
     answers: &Answers<L>,
     count: usize,

@@ -5,6 +5,7 @@ ghost use Rattle.type_order.specs.Rule.{alternatives_in, case_of, fields_in, fun
 
 use crate::fields::{Field, has_all, part_of};
 use crate::types::{Form, Types};
+use delegate_parts::Lends;
 use question_lists::{Needs, QuestionLists};
 use search_context::path::PathKind;
 
@@ -13,26 +14,6 @@ use search_context::path::PathKind;
 pub struct Pair {
     pub left: usize,
     pub right: usize,
-}
-
-/// What lends types, as a reference does.
-pub trait LendsTypes: Copy {
-    ghost use Rattle.type_order.specs.declared.types.Types.{Types};
-
-    /// The types that it lends.
-    ghost types_of: { Self → Types };
-
-    /// The types that it lends.
-    fn types(&self) -> &Types
-        ensures { result.now ≡ types_of self.now };
-}
-
-impl<'a> LendsTypes for &'a Types {
-    ghost types_of = { λ lent. lent.now };
-
-    fn types(&self) -> &Types {
-        *self
-    }
 }
 
 /// The pairs of the types that are lent, as goals.
@@ -184,32 +165,32 @@ impl Types {
 }
 
 // Everything is asked coinductively. A pair that fails needs any of no questions.
-impl<T: LendsTypes> QuestionLists for PairsOf<T> {
+impl<T: Lends<Types>> QuestionLists for PairsOf<T> {
     ghost use Rattle.std.proofs.Common.{rules};
 
     type Input = Pair;
 
-    ghost needs_of = { λ pairs pair. needs_of (forms_of (T.types_of pairs.lender)) pair };
+    ghost needs_of = { λ pairs pair. needs_of (forms_of (T.lent_by pairs.lender)) pair };
 
-    ghost questions_of = { λ pairs pair. questions_of (forms_of (T.types_of pairs.lender)) pair };
+    ghost questions_of = { λ pairs pair. questions_of (forms_of (T.lent_by pairs.lender)) pair };
 
-    ghost most = { λ pairs. most_questions (forms_of (T.types_of pairs.lender)) };
+    ghost most = { λ pairs. most_questions (forms_of (T.lent_by pairs.lender)) };
 
     ghost same_input = { Prim.search rules };
 
     fn needs(self, pair: Pair) -> Needs {
-        match self.lender.types().case(pair) {
+        match self.lender.lent().case(pair) {
             Case::Fails | Case::SplitsRight => Needs::Any,
             _ => Needs::All,
         }
     }
 
     fn count(self, pair: Pair) -> usize {
-        self.lender.types().asked_count(pair)
+        self.lender.lent().asked_count(pair)
     }
 
     fn question(self, pair: Pair, place: usize) -> (PathKind, Pair) {
-        let asked = self.lender.types().asked(pair, place).unwrap_or(pair); // there is one
+        let asked = self.lender.lent().asked(pair, place).unwrap_or(pair); // there is one
         (PathKind::Coinductive, asked)
     }
 }

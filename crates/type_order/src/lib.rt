@@ -24,6 +24,6 @@ mod fields;
 mod order;
 mod types;
 
-pub use delegate::{Case, LendsTypes, Pair, PairsOf};
+pub use delegate::{Case, Pair, PairsOf};
 pub use fields::{Field, part_of};
 pub use types::{Form, Types};

@@ -11,13 +11,13 @@ ghost use Rattle.type_texts.specs.Table.{forms_in};
 use crate::program::reason::reason_of;
 use crate::program::stop::Stop;
 use answer_lines::types::{Told, write_line};
-use delegate_parts::Outcome;
+use delegate_parts::{Lends, Outcome};
 use line_texts::{Flush, write_bytes};
 use search_parts::context::Fault;
 use std::alloc::Global;
 use std::io::Write;
 use structural_types::Subtyping;
-use type_order::{LendsTypes, Pair};
+use type_order::Pair;
 use type_texts::TypeTable;
 
 /// A write of its own for each line would take longer than a question that the cache answers, so this many bytes
@@ -28,13 +28,13 @@ const ENOUGH: usize = 8000;
 const ROOM: usize = 8192;
 
 /// Answers each question, and writes its line. The result is whether none met a fault.
-pub(super) fn answer_questions<T: LendsTypes, W: Flush>(
+pub(super) fn answer_questions<T: Lends<Types>, W: Flush>(
     alloc: Global,
     types: T,
     table: &TypeTable,
     out: &mut W,
 ) -> Result<bool, Stop>
-    requires same_types { forms_of (T.types_of types) ≡ forms_in table.now }
+    requires same_types { forms_of (T.lent_by types) ≡ forms_in table.now }
 
     // All questions were asked in order, and their lines written.
     ensures told { IfOk result (AreAllTold table.now (W.contents out.old) (W.contents out.new)) }
@@ -61,16 +61,16 @@ pub(super) fn answer_questions<T: LendsTypes, W: Flush>(
 }
 
 // Asks whether the left type is below the right one, and seeks the reason if it isn't.
-fn ask<T: LendsTypes>(
+fn ask<T: Lends<Types>>(
     alloc: Global,
     subtyping: &mut Subtyping<T>,
     table: &TypeTable,
     pair: Pair,
 ) -> Result<Told, Fault<Pair, Outcome>>
-    requires of_these { declared_in T.types_of subtyping.old ≡ forms_in table.now }
+    requires of_these { declared_in T.lent_by subtyping.old ≡ forms_in table.now }
     ensures told { IfOk result (IsTold table.now pair) }
-    ensures same_types { declared_in T.types_of subtyping.new
-        ≡ declared_in T.types_of subtyping.old }
+    ensures same_types { declared_in T.lent_by subtyping.new
+        ≡ declared_in T.lent_by subtyping.old }
 {
     if subtyping.is_below(pair.left, pair.right)? {
         return Ok(Told {

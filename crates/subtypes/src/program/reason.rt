@@ -7,12 +7,12 @@ ghost use Rattle.type_order.specs.Subtypes.{IsBelow, forms_of};
 ghost use Rattle.type_texts.specs.Reasons.{Fails, IsReason, Leads};
 ghost use Rattle.type_texts.specs.Table.{forms_in};
 
-use delegate_parts::Outcome;
+use delegate_parts::{Lends, Outcome};
 use search_parts::context::{Fault, NoMemory};
 use std::alloc::Global;
 use std::collections::HashSet;
 use structural_types::Subtyping;
-use type_order::{LendsTypes, Pair, Types};
+use type_order::{Pair, Types};
 use type_texts::TypeTable;
 use type_texts::reasons::{End, Step, end_of, step_at, write_end, write_way};
 
@@ -33,17 +33,17 @@ struct Search<'a> {
 }
 
 /// The reason why the left type of the pair is not below the right one, as ` at tail.head: Text is not below Int`.
-pub(super) fn reason_of<T: LendsTypes>(
+pub(super) fn reason_of<T: Lends<Types>>(
     alloc: Global,
     subtyping: &mut Subtyping<T>,
     table: &TypeTable,
     pair: Pair,
 ) -> Result<Vec<u8>, Fault<Pair, Outcome>>
-    requires same_types { declared_in T.types_of subtyping.old ≡ forms_in table.now }
+    requires same_types { declared_in T.lent_by subtyping.old ≡ forms_in table.now }
     requires not_below { IsBelow (forms_in table.now) pair.left pair.right → ⊥ }
     ensures reason { IfOk result (λ reason. IsReason table.now pair reason.items) }
-    ensures same_types { declared_in T.types_of subtyping.new
-        ≡ declared_in T.types_of subtyping.old }
+    ensures same_types { declared_in T.lent_by subtyping.new
+        ≡ declared_in T.lent_by subtyping.old }
 {
     let mut search = Search::new(alloc, table.types(), pair)?;
     for place in 0..usize::MAX {
@@ -91,7 +91,7 @@ impl<'a> Search<'a> {
     }
 
     // Looks at what is asked for a pair that was found, all of which is needed.
-    fn follow<T: LendsTypes>(
+    fn follow<T: Lends<Types>>(
         &mut self,
         subtyping: &mut Subtyping<T>,
         place: usize,
@@ -99,14 +99,14 @@ impl<'a> Search<'a> {
     ) -> Result<(), Fault<Pair, Outcome>>
         requires ongoing { IsSearch self.old }
         requires at { IsAt self.old place pair }
-        requires of_these { declared_in T.types_of subtyping.old ≡ types_in self.old }
+        requires of_these { declared_in T.lent_by subtyping.old ≡ types_in self.old }
         requires all { NeedsAll (types_in self.old) pair }
         ensures ongoing { OnOk result (IsSearch self.new) }
         ensures goes_on { OnOk result (GoesOn self.old self.new) }
         ensures covered { OnOk result
             (AreCovered self.new (Contains (pairs_of (types_in self.old) pair))) }
-        ensures same_types { declared_in T.types_of subtyping.new
-            ≡ declared_in T.types_of subtyping.old }
+        ensures same_types { declared_in T.lent_by subtyping.new
+            ≡ declared_in T.lent_by subtyping.old }
     {
         let types = self.types;
         for asked in 0..types.asked_count(pair) {
@@ -118,7 +118,7 @@ impl<'a> Search<'a> {
     }
 
     // Notes the pair if its left type is not below the right one and it is new.
-    fn look_at<T: LendsTypes>(
+    fn look_at<T: Lends<Types>>(
         &mut self,
         subtyping: &mut Subtyping<T>,
         pair: Pair,
@@ -127,12 +127,12 @@ impl<'a> Search<'a> {
     ) -> Result<(), Fault<Pair, Outcome>>
         requires ongoing { IsSearch self.old }
         requires linked { ComesFrom self.old pair from step }
-        requires of_these { declared_in T.types_of subtyping.old ≡ types_in self.old }
+        requires of_these { declared_in T.lent_by subtyping.old ≡ types_in self.old }
         ensures ongoing { OnOk result (IsSearch self.new) }
         ensures goes_on { OnOk result (GoesOn self.old self.new) }
         ensures covered { OnOk result (AreCovered self.new (λ part. part ≡ pair)) }
-        ensures same_types { declared_in T.types_of subtyping.new
-            ≡ declared_in T.types_of subtyping.old }
+        ensures same_types { declared_in T.lent_by subtyping.new
+            ≡ declared_in T.lent_by subtyping.old }
     {
         if self.seen.contains(&pair) {
             return Ok(());

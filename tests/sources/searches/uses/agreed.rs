@@ -2,7 +2,7 @@
 
 use crate::accepted::has_accepted_graph;
 use crate::searches::uses::plain::{Pairs, pairs_below};
-use delegate_parts::{Builder, Outcome};
+use delegate_parts::{Builder, Lends, Outcome};
 use question_lists::{ContextOf, Listed, ListsContext};
 use search_graph::graph::SearchGraph;
 use search_parts::context::{Cx, Delegate, Verdict};
@@ -10,7 +10,7 @@ use search_parts::global_cache::GlobalCache;
 use search_parts::path::PathKind;
 use std::alloc::Global;
 use std::test::Fail;
-use structural_types::{LendsTypes, Pair, PairsOf, Subtyping, Types, TypesDelegate};
+use structural_types::{Pair, PairsOf, Subtyping, Types, TypesDelegate};
 
 /// Two types, by their numbers, and whether the left one is below the right one.
 pub type Asked = (usize, usize, bool);
@@ -71,7 +71,7 @@ where
 }
 
 /// The first of these pairs that is answered otherwise, where all are asked in turn.
-pub fn answered_otherwise<T: LendsTypes>(
+pub fn answered_otherwise<T: Lends<Types>>(
     alloc: Global,
     types: T,
     asked: &[Asked],

@@ -1,6 +1,7 @@
 //! A small program, whose blocks fork and join.
 
-use reach::{AddFault, Analysis, LendsProgram, Program};
+use delegate_parts::Lends;
+use reach::{AddFault, Analysis, Program};
 use std::alloc::Global;
 use std::process::Abort;
 use std::test::Fail;
@@ -70,7 +71,7 @@ fn add(
 }
 
 /// The first question that is answered otherwise.
-fn answered_otherwise<P: LendsProgram>(
+fn answered_otherwise<P: Lends<Program>>(
     alloc: Global,
     program: P,
     asked: &[Asked],

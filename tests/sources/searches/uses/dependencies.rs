@@ -1,6 +1,7 @@
 //! Services that need each other, before they start or beside them.
 
-use services::{LendsServices, Need, Service, can_run};
+use delegate_parts::Lends;
+use services::{Need, Service, can_run};
 use std::alloc::Global;
 use std::io::Write;
 use std::process::Abort;
@@ -94,7 +95,7 @@ fn add(needs: &mut Vec<Need>, numbers: &[usize], comes_first: bool) -> Result<()
     Ok(())
 }
 
-fn tell_each<S: LendsServices>(
+fn tell_each<S: Lends<Services>>(
     alloc: Global,
     services: S,
     count: usize,

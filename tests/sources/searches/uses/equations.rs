@@ -1,6 +1,7 @@
 //! Shapes that end, and shapes that do not.
 
-use shapes::{Comparison, LendsShapes, Shapes};
+use delegate_parts::Lends;
+use shapes::{Comparison, Shapes};
 use std::alloc::Global;
 use std::io::Write;
 use std::process::Abort;
@@ -98,7 +99,7 @@ fn declare(alloc: Global, shapes: &mut Shapes, label: u32, parts: &[usize]) -> R
 }
 
 /// What the pairs come to, each with whether a limit was met until then.
-fn tell_compared<S: LendsShapes>(
+fn tell_compared<S: Lends<Shapes>>(
     alloc: Global,
     shapes: S,
     asked: &[Asked],

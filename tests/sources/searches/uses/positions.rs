@@ -1,6 +1,7 @@
 //! Games that end, and games that may go on without end.
 
-use games::{Game, LendsGame, Player, Solver};
+use delegate_parts::Lends;
+use games::{Game, Player, Solver};
 use std::alloc::Global;
 use std::io::Write;
 use std::process::Abort;
@@ -107,7 +108,7 @@ fn add(alloc: Global, game: &mut Game, turn: Player, moves: &[usize]) -> Result<
 }
 
 /// What the positions come to, each with whether a limit was met until then.
-fn tell_wins<G: LendsGame>(alloc: Global, game: G, asked: &[Asked]) -> Result<Vec<u8>, Fail> {
+fn tell_wins<G: Lends<Game>>(alloc: Global, game: G, asked: &[Asked]) -> Result<Vec<u8>, Fail> {
     let mut solver = Solver::<G>::new(alloc, game);
     let mut told = Vec::new(alloc);
     for (position, depth) in asked {

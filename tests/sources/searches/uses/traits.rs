@@ -1,11 +1,12 @@
 //! Which types implement which traits, where goals are made as they are wanted.
 
+use delegate_parts::Lends;
 use path_kinds::path::PathKind;
 use std::alloc::Global;
 use std::io::Write;
 use std::test::Fail;
 use trait_answers::{Answers, Outcome};
-use trait_goals::{Asked, Goals, LendsGoals};
+use trait_goals::{Asked, Goals};
 use trait_rules::{Bound, Clause, Constructor, Listed, Rule, Rules, Shape, Terms, Trait};
 
 // traits
@@ -136,7 +137,7 @@ fn term(terms: &mut Terms, constructors: &[usize]) -> Result<usize, Fail> {
 }
 
 /// Tells the outcome, how many goals were wanted, and whether one was cut off.
-fn ask<L: LendsGoals>(
+fn ask<L: Lends<Goals>>(
     alloc: Global,
     lender: L,
     count: usize,

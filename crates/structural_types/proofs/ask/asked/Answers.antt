@@ -9,15 +9,15 @@ use Rattle.structural_types.proofs.ask.asked.Goals as goal
 
 pub returns-in-Yes : goal.returns-in-Yes
 returns-in-Yes g c =
-    let types = g.T.LendsTypes.types_of c.args.cache.now.cx.0.0.lender in
-    let later = forms_of (g.T.LendsTypes.types_of c.evaluated.new.cache.cx.0.0.lender) in
+    let types = g.T.Lends.lent_by c.args.cache.now.cx.0.0.lender in
+    let later = forms_of (g.T.Lends.lent_by c.evaluated.new.cache.cx.0.0.lender) in
     let ends = ∥∥₁_map c.requires.ready (λ ready. c.in-Ok.ensures.decided (askable (forms_of types))
     (enough _ _ _ types _ _ _ _ _ refl refl (omega arith) (λ _. refl) refl c.requires.left c.requires.right
     c.new-builder.ensures.noop ready)) in
     record {
       exact = (
         λ _.
-            subst (λ cx. IsBelow (forms_of (g.T.LendsTypes.types_of cx.0.0.lender)) c.args.pair.left c.args.pair.right)
+            subst (λ cx. IsBelow (forms_of (g.T.Lends.lent_by cx.0.0.lender)) c.args.pair.left c.args.pair.right)
             c.evaluated.ensures.same_context
             (proved_below later c.in-Ok.answer.node _ c.args.pair (c.in-Ok.ensures.yes (ap is_yes c.in-Yes.is)).graph),
         λ _. refl,
@@ -29,8 +29,8 @@ returns-in-Yes g c =
 
 pub returns-in_default : goal.returns-in_default
 returns-in_default g c =
-    let types = g.T.LendsTypes.types_of c.args.cache.now.cx.0.0.lender in
-    let later = forms_of (g.T.LendsTypes.types_of c.evaluated.new.cache.cx.0.0.lender) in
+    let types = g.T.Lends.lent_by c.args.cache.now.cx.0.0.lender in
+    let later = forms_of (g.T.Lends.lent_by c.evaluated.new.cache.cx.0.0.lender) in
     let ends = ∥∥₁_map c.requires.ready (λ ready. c.in-Ok.ensures.decided (askable (forms_of types))
     (enough _ _ _ types _ _ _ _ _ refl refl (omega arith) (λ _. refl) refl c.requires.left c.requires.right
     c.new-builder.ensures.noop ready)) in
@@ -42,7 +42,7 @@ returns-in_default g c =
               | inl is ↦ absurd (c.in_default.not-Yes is)
               | inr is ↦
                   refuted_not_below later c.in-Ok.answer.node _ c.args.pair (c.in-Ok.ensures.no (ap is_no is)).graph
-                  (subst (λ cx. IsBelow (forms_of (g.T.LendsTypes.types_of cx.0.0.lender)) c.args.pair.left
+                  (subst (λ cx. IsBelow (forms_of (g.T.Lends.lent_by cx.0.0.lender)) c.args.pair.left
                   c.args.pair.right) (sym c.evaluated.ensures.same_context) below)
             ])),
       );
@@ -53,8 +53,8 @@ returns-in_default g c =
 
 pub returns-in-Err : goal.returns-in-Err
 returns-in-Err g c =
-    let types = g.T.LendsTypes.types_of c.args.cache.now.cx.0.0.lender in
-    let later = g.T.LendsTypes.types_of c.evaluated.new.cache.cx.0.0.lender in
+    let types = g.T.Lends.lent_by c.args.cache.now.cx.0.0.lender in
+    let later = g.T.Lends.lent_by c.evaluated.new.cache.cx.0.0.lender in
     let ends = ∥∥₁_map c.requires.ready (λ ready. c.in-Err.ensures.decided (askable (forms_of types))
     (enough _ _ _ types _ _ _ _ _ refl refl (omega arith) (λ _. refl) refl c.requires.left c.requires.right
     c.new-builder.ensures.noop ready)) in

@@ -8,7 +8,7 @@ use Rattle.trait_answers.proofs.ask.asked.Goals as goal
 
 pub returns-in-Ok-clause-yes : goal.returns-in-Ok-clause-yes
 returns-in-Ok-clause-yes g c = λ e.
-    let table = g.L.LendsGoals.table_of in
+    let table = g.L.Lends.lent_by in
     let cache = c.evaluated.new.cache in
     let shown = c.in-Ok.ensures.yes (ap is_yes e) in
     let told : c.goals.result.now ≡ table c.args.cache.now.cx.0.0.lender =
@@ -21,7 +21,7 @@ returns-in-Ok-clause-yes g c = λ e.
 
 pub returns-in-Ok-clause-no : goal.returns-in-Ok-clause-no
 returns-in-Ok-clause-no g c = λ e.
-    let table = g.L.LendsGoals.table_of in
+    let table = g.L.Lends.lent_by in
     let cache = c.evaluated.new.cache in
     let shown = c.in-Ok.ensures.no (ap is_no e) in
     let told : c.goals.result.now ≡ table c.args.cache.now.cx.0.0.lender =
@@ -35,7 +35,7 @@ returns-in-Ok-clause-no g c = λ e.
 pub returns-in-Ok-clause-told : goal.returns-in-Ok-clause-told
 returns-in-Ok-clause-told g c = λ can ready.
     let old = c.args.cache.now in
-    let table = g.L.LendsGoals.table_of old.cx.0.0.lender in
+    let table = g.L.Lends.lent_by old.cx.0.0.lender in
     let graph = c.renew.new.self in
     let lent : c.goals.result.now ≡ table =
     let lent = c.goals.ensures in let cx = c.cx.ensures in search rules in
@@ -50,7 +50,7 @@ returns-in-Ok-clause-told g c = λ can ready.
 pub returns-in-Err-clause-told : goal.returns-in-Err-clause-told
 returns-in-Err-clause-told g c = λ can ready.
     let old = c.args.cache.now in
-    let table = g.L.LendsGoals.table_of old.cx.0.0.lender in
+    let table = g.L.Lends.lent_by old.cx.0.0.lender in
     let graph = c.renew.new.self in
     let lent : c.goals.result.now ≡ table =
     let lent = c.goals.ensures in let cx = c.cx.ensures in search rules in

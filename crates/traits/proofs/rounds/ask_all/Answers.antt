@@ -24,17 +24,17 @@ loop-goal-preserved g c =
       same = c.ask-answer.ensures.same_goals ∙ c.loop-goal.invariant.same;
       count = ap length c.in_ok-push.ensures.items
           ∙ (length_more c.loop-goal.came.items c.ask-answer.result ∙ ap (λ n. n + 1) c.loop-goal.invariant.count);
-      right = right_more (g.L.LendsGoals.table_of c.args.lender) asked c.loop-goal.came.items c.push.new.self.items here
+      right = right_more (g.L.Lends.lent_by c.args.lender) asked c.loop-goal.came.items c.push.new.self.items here
           c.ask-answer.result c.loop-goal.invariant.right c.in_ok-push.ensures.items
           (subst (λ n. slice_get asked n ≡ Some here) (sym c.loop-goal.invariant.count)
           (slice_get-get_or asked c.loop-goal.goal-index 0 (omega arith)))
           (subst (λ t. IsRight t here c.ask-answer.result) c.loop-goal.invariant.same c.ask-answer.ensures.right);
-      deep = λ enough. still_deep _ _ (length (g.L.LendsGoals.table_of c.args.lender).asked) c.args.depth
+      deep = λ enough. still_deep _ _ (length (g.L.Lends.lent_by c.args.lender).asked) c.args.depth
           (subst (λ t. c.ask-answer.new.answers.had_depth
           ≡ (c.loop-goal.answers.had_depth && nat_le (length t.asked) c.args.depth)) c.loop-goal.invariant.same
           c.ask-answer.ensures.deep)
           (c.loop-goal.invariant.deep enough) enough;
-      told = λ all enough. answered_more (g.L.LendsGoals.table_of c.args.lender) asked c.loop-goal.came.items
+      told = λ all enough. answered_more (g.L.Lends.lent_by c.args.lender) asked c.loop-goal.came.items
           c.push.new.self.items here c.ask-answer.result (c.loop-goal.invariant.told all enough)
           c.in_ok-push.ensures.items
           (subst (λ n. slice_get asked n ≡ Some here) (sym c.loop-goal.invariant.count)

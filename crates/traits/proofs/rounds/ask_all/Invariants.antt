@@ -5,9 +5,9 @@ use Rattle.traits.proofs.rounds.ask_all.Given as goal
 
 abbrev pub invariant-loop-goal : goal.invariant-loop-goal
 invariant-loop-goal g l = record {
-  same : known_by g.L.LendsGoals.table_of l.answers ≡ g.L.LendsGoals.table_of l.fn.lender;
+  same : known_by g.L.Lends.lent_by l.answers ≡ g.L.Lends.lent_by l.fn.lender;
   count : length l.came.items ≡ l.goal-index;
-  right : AreRight (g.L.LendsGoals.table_of l.fn.lender) l.asked l.came.items;
-  deep : length (g.L.LendsGoals.table_of l.fn.lender).asked ≤ l.depth → l.answers.had_depth ≡ true;
-  told : AreAnsweredAt l.depth (g.L.LendsGoals.table_of l.fn.lender) l.asked l.came.items;
+  right : AreRight (g.L.Lends.lent_by l.fn.lender) l.asked l.came.items;
+  deep : length (g.L.Lends.lent_by l.fn.lender).asked ≤ l.depth → l.answers.had_depth ≡ true;
+  told : AreAnsweredAt l.depth (g.L.Lends.lent_by l.fn.lender) l.asked l.came.items;
 }

@@ -5,7 +5,7 @@ use Rattle.early_scripts.proofs.early.EarlyFrames.step.Goals as goal
 
 pub returns-clause-falls : goal.returns-clause-falls
 returns-clause-falls g c =
-    let rules_of = g.T.LendsRules.rules_of in
+    let rules_of = g.T.Lends.lent_by in
     let frame = c.args.frame.now in
     let q = c.requires.can in
     falls_at (candidates_of (rules_of q.cx.lender) q.goal) (candidates_of (rules_of frame.lender) frame.goal) _

@@ -16,7 +16,7 @@ invariant_of-self g c = record {
         let met : c.evaluate_goal-answer.new.self.limits_met ≡ false =
         let is = w.self-is in let told = w.limits_met-self.ensures in search rules in
         c.decisive_results.ensures _ c.evaluate_goal-answer.ensures.ran
-        (are_decisive (positions_of (g.G.LendsGame.game_of c.args.self.now.cache.cx.0.0.lender)))
+        (are_decisive (positions_of (g.G.Lends.lent_by c.args.self.now.cache.cx.0.0.lender)))
         (c.args.self.now.decided old) met
   ];
 }
@@ -26,9 +26,9 @@ returns-clause-yes g c = λ e.
     let is : c.verdict.result ≡ Yes = cc in
     let cache = c.evaluate_goal-answer.new.cache in
     let shown = c.in_ok-answer.ensures.yes (c.verdict.ensures.yes.0 is) in
-    subst (λ cx. Strategy (positions_of (g.G.LendsGame.game_of cx.0.0.lender)) c.args.position)
+    subst (λ cx. Strategy (positions_of (g.G.Lends.lent_by cx.0.0.lender)) c.args.position)
     c.in_ok-answer.ensures.same_context
-    (won_at_node (positions_of (g.G.LendsGame.game_of cache.cx.0.0.lender))
+    (won_at_node (positions_of (g.G.Lends.lent_by cache.cx.0.0.lender))
     (graph_nodes_of cache.nodes) c.args.position _ shown.graph)
 
 pub returns-clause-no : goal.returns-clause-no
@@ -36,9 +36,9 @@ returns-clause-no g c = λ e strategy.
     let is : c.verdict.result ≡ No = cc in
     let cache = c.evaluate_goal-answer.new.cache in
     let shown = c.in_ok-answer.ensures.no (c.verdict.ensures.no.0 is) in
-    lost_at_node (positions_of (g.G.LendsGame.game_of cache.cx.0.0.lender))
+    lost_at_node (positions_of (g.G.Lends.lent_by cache.cx.0.0.lender))
     (graph_nodes_of cache.nodes) c.args.position _ shown.graph
-    (subst (λ cx. Strategy (positions_of (g.G.LendsGame.game_of cx.0.0.lender)) c.args.position)
+    (subst (λ cx. Strategy (positions_of (g.G.Lends.lent_by cx.0.0.lender)) c.args.position)
     (sym c.in_ok-answer.ensures.same_context) strategy)
 
 pub returns-clause-neither : goal.returns-clause-neither
@@ -52,7 +52,7 @@ returns-clause-neither g c = λ e.
           let so = w.self-is in let told = w.limits_met-self.ensures in search rules in
           never_neither c.in_ok-answer.field-0.result c.verdict.result c.verdict.ensures.yes c.verdict.ensures.no is
           (c.in_ok-answer.ensures.decisive
-          (are_decisive (positions_of (g.G.LendsGame.game_of c.args.self.now.cache.cx.0.0.lender)))
+          (are_decisive (positions_of (g.G.Lends.lent_by c.args.self.now.cache.cx.0.0.lender)))
           (c.args.self.now.decided old) met))
     ]
 

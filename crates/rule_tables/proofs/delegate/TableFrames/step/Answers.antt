@@ -6,6 +6,6 @@ use Rattle.rule_tables.specs.Standing.{candidates_in}
 pub returns-clause-falls : goal.returns-clause-falls
 returns-clause-falls g c =
     let q = c.requires.can in
-    frame_falls question_of (candidates_in g.T.LendsRules.rules_of) c.args.frame.now c.step.new.self q.cx q.goal
+    frame_falls question_of (candidates_in g.T.Lends.lent_by) c.args.frame.now c.step.new.self q.cx q.goal
     q.replies c.args.reply q.stood q.is_fitting
     c.step.ensures.lists c.step.ensures.goal c.step.ensures.state

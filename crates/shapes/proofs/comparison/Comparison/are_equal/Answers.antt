@@ -15,7 +15,7 @@ invariant_of-self g c = record {
         let met : c.evaluate_goal-answer.new.self.limits_met ≡ false =
         let is = w.self-is in let told = w.limits_met-self.ensures in search rules in
         c.decisive_results.ensures _ c.evaluate_goal-answer.ensures.ran
-        (are_decisive (equations_of (g.S.LendsShapes.shapes_of c.args.self.now.cache.cx.0.0.lender)))
+        (are_decisive (equations_of (g.S.Lends.lent_by c.args.self.now.cache.cx.0.0.lender)))
         (c.args.self.now.decided old) met
   ];
 }
@@ -25,9 +25,9 @@ returns-clause-yes g c = λ e.
     let is : c.verdict.result ≡ Yes = cc in
     let cache = c.evaluate_goal-answer.new.cache in
     let shown = c.in_ok-answer.ensures.yes (c.verdict.ensures.yes.0 is) in
-    subst (λ cx. AreEqual (equations_of (g.S.LendsShapes.shapes_of cx.0.0.lender)) c.args.left c.args.right)
+    subst (λ cx. AreEqual (equations_of (g.S.Lends.lent_by cx.0.0.lender)) c.args.left c.args.right)
     c.in_ok-answer.ensures.same_context
-    (equal_by (equations_of (g.S.LendsShapes.shapes_of cache.cx.0.0.lender)) (graph_nodes_of cache.nodes)
+    (equal_by (equations_of (g.S.Lends.lent_by cache.cx.0.0.lender)) (graph_nodes_of cache.nodes)
     (record { left = c.args.left; right = c.args.right }) _ shown.graph)
 
 pub returns-clause-no : goal.returns-clause-no
@@ -35,9 +35,9 @@ returns-clause-no g c = λ e are.
     let is : c.verdict.result ≡ No = cc in
     let cache = c.evaluate_goal-answer.new.cache in
     let shown = c.in_ok-answer.ensures.no (c.verdict.ensures.no.0 is) in
-    differ_by (equations_of (g.S.LendsShapes.shapes_of cache.cx.0.0.lender)) (graph_nodes_of cache.nodes)
+    differ_by (equations_of (g.S.Lends.lent_by cache.cx.0.0.lender)) (graph_nodes_of cache.nodes)
     (record { left = c.args.left; right = c.args.right }) _ shown.graph
-    (subst (λ cx. AreEqual (equations_of (g.S.LendsShapes.shapes_of cx.0.0.lender)) c.args.left c.args.right)
+    (subst (λ cx. AreEqual (equations_of (g.S.Lends.lent_by cx.0.0.lender)) c.args.left c.args.right)
     (sym c.in_ok-answer.ensures.same_context) are)
 
 pub returns-clause-neither : goal.returns-clause-neither
@@ -51,7 +51,7 @@ returns-clause-neither g c = λ e.
           let so = w.self-is in let told = w.limits_met-self.ensures in search rules in
           never_neither c.in_ok-answer.field-0.result c.verdict.result c.verdict.ensures.yes c.verdict.ensures.no is
           (c.in_ok-answer.ensures.decisive
-          (are_decisive (equations_of (g.S.LendsShapes.shapes_of c.args.self.now.cache.cx.0.0.lender)))
+          (are_decisive (equations_of (g.S.Lends.lent_by c.args.self.now.cache.cx.0.0.lender)))
           (c.args.self.now.decided old) met))
     ]
 

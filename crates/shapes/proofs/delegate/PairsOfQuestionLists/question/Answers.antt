@@ -6,7 +6,7 @@ use Rattle.shapes.proofs.delegate.PairsOfQuestionLists.question.Goals as goal
 
 pub returns : goal.returns
 returns g c =
-    let shapes = g.S.LendsShapes.shapes_of c.args.self.lender in
+    let shapes = g.S.Lends.lent_by c.args.self.lender in
     let w = asked_at (matched_parts (equations_of shapes) c.args.pair.left c.args.pair.right)
     c.args.place c.args.pair c.requires in
     let found : c.parts_at.result

@@ -10,6 +10,6 @@ use Rattle.type_texts.specs.Table.{forms_in}
 abbrev pub invariant-loop-question : goal.invariant-loop-question
 invariant-loop-question g l =
     let contents = g.W.Write.contents in
-    (declared_in g.T.LendsTypes.types_of l.subtyping ≡ forms_in l.table)
+    (declared_in g.T.Lends.lent_by l.subtyping ≡ forms_in l.table)
     × AreToldTo (line_of l.table) is_ok (AreRight l.table) (take l.question-index l.questions) (contents l.fn.out)
     (contents l.out) l.waiting.items l.all_fine

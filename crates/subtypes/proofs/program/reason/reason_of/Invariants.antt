@@ -12,5 +12,5 @@ invariant-loop-place g l = record {
   first : IsAt l.search 0 l.fn.pair;
   of_table : types_in l.search ≡ forms_in l.table;
   followed : AreFollowed l.search l.place;
-  same_types : declared_in g.T.LendsTypes.types_of l.subtyping ≡ declared_in g.T.LendsTypes.types_of l.fn.subtyping;
+  same_types : declared_in g.T.Lends.lent_by l.subtyping ≡ declared_in g.T.Lends.lent_by l.fn.subtyping;
 }

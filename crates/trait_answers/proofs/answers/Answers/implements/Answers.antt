@@ -5,7 +5,7 @@ use Rattle.trait_answers.proofs.answers.Answers.implements.Goals as goal
 
 pub returns-then-goal-count-clause-told : goal.returns-then-goal-count-clause-told
 returns-then-goal-count-clause-told g c = λ had can.
-    let table = g.L.LendsGoals.table_of c.args.self.now.cache.cx.0.0.lender in
+    let table = g.L.Lends.lent_by c.args.self.now.cache.cx.0.0.lender in
     let lent : c.goals.result.now ≡ table =
     let lent = c.goals.ensures in let cx = c.cx.ensures in search rules in
     let many : c.len-count.result ≡ length table.asked = c.len-count.ensures ∙ ap (λ t. length t.asked) lent in
@@ -14,7 +14,7 @@ returns-then-goal-count-clause-told g c = λ had can.
 
 pub returns-then-goal-count-clause-deep : goal.returns-then-goal-count-clause-deep
 returns-then-goal-count-clause-deep g c =
-    let table = g.L.LendsGoals.table_of c.args.self.now.cache.cx.0.0.lender in
+    let table = g.L.Lends.lent_by c.args.self.now.cache.cx.0.0.lender in
     let lent : c.goals.result.now ≡ table =
     let lent = c.goals.ensures in let cx = c.cx.ensures in search rules in
     let many : c.len-count.result ≡ length table.asked = c.len-count.ensures ∙ ap (λ t. length t.asked) lent in
@@ -24,7 +24,7 @@ returns-then-goal-count-clause-deep g c =
 pub invariant_of-self : goal.invariant_of-self
 invariant_of-self g c =
     let old = c.args.self.now in
-    let table = g.L.LendsGoals.table_of old.cache.cx.0.0.lender in
+    let table = g.L.Lends.lent_by old.cache.cx.0.0.lender in
     let lent : c.goals.result.now ≡ table =
     let lent = c.goals.ensures in let cx = c.cx.ensures in search rules in
     let many : c.len-count.result ≡ length table.asked = c.len-count.ensures ∙ ap (λ t. length t.asked) lent in
@@ -38,15 +38,15 @@ invariant_of-self g c =
 pub invariant_of-self-2 : goal.invariant_of-self-2
 invariant_of-self-2 g c =
     let old = c.args.self.now in
-    let table = g.L.LendsGoals.table_of old.cache.cx.0.0.lender in
+    let table = g.L.Lends.lent_by old.cache.cx.0.0.lender in
     let lent : c.goals.result.now ≡ table =
     let lent = c.goals.ensures in let cx = c.cx.ensures in search rules in
     let many : c.len-count.result ≡ length table.asked = c.len-count.ensures ∙ ap (λ t. length t.asked) lent in
     let less : c.args.goal < length table.asked = omega (arith, many) in
     record {
       ready = ready_of _ table c.args.goal old.had_depth c.has_depth-self.result c.args.depth
-          (g.L.LendsGoals.table_of c.asked.new.cache.cx.0.0.lender) c.asked.result old.cache c.asked.new.cache
-          (ap (λ cx. g.L.LendsGoals.table_of cx.0.0.lender) c.asked.ensures.same_context)
+          (g.L.Lends.lent_by c.asked.new.cache.cx.0.0.lender) c.asked.result old.cache c.asked.new.cache
+          (ap (λ cx. g.L.Lends.lent_by cx.0.0.lender) c.asked.ensures.same_context)
           (subst (λ n. c.has_depth-self.result ≡ (old.had_depth && nat_le n c.args.depth)) many
           c.has_depth-self.ensures) less
           c.asked.ensures.told old.ready;
@@ -55,27 +55,27 @@ invariant_of-self-2 g c =
 pub returns-clause-told : goal.returns-clause-told
 returns-clause-told g c = λ had can.
     let old = c.args.self.now in
-    let table = g.L.LendsGoals.table_of old.cache.cx.0.0.lender in
+    let table = g.L.Lends.lent_by old.cache.cx.0.0.lender in
     told_of _ table c.args.goal c.asked.result c.asked.new.cache c.asked.ensures.yes c.asked.ensures.no
     (∥∥₁_map old.ready (λ ready. c.asked.ensures.told can (ready had can.all)))
 
 pub returns-clause-unmet : goal.returns-clause-unmet
 returns-clause-unmet g c = λ had can.
     let old = c.args.self.now in
-    let table = g.L.LendsGoals.table_of old.cache.cx.0.0.lender in
+    let table = g.L.Lends.lent_by old.cache.cx.0.0.lender in
     unmet_of _ table c.args.goal c.asked.result c.asked.new.cache
     (∥∥₁_map old.ready (λ ready. c.asked.ensures.told can (ready had can.all)))
 
 pub returns-clause-faults : goal.returns-clause-faults
 returns-clause-faults g c = λ had can.
     let old = c.args.self.now in
-    let table = g.L.LendsGoals.table_of old.cache.cx.0.0.lender in
+    let table = g.L.Lends.lent_by old.cache.cx.0.0.lender in
     fault_of _ table c.args.goal c.asked.result c.asked.new.cache
     (∥∥₁_map old.ready (λ ready. c.asked.ensures.told can (ready had can.all)))
 
 pub returns-clause-deep : goal.returns-clause-deep
 returns-clause-deep g c =
-    let table = g.L.LendsGoals.table_of c.args.self.now.cache.cx.0.0.lender in
+    let table = g.L.Lends.lent_by c.args.self.now.cache.cx.0.0.lender in
     let lent : c.goals.result.now ≡ table =
     let lent = c.goals.ensures in let cx = c.cx.ensures in search rules in
     let many : c.len-count.result ≡ length table.asked = c.len-count.ensures ∙ ap (λ t. length t.asked) lent in

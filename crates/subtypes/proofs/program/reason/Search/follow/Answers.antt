@@ -20,7 +20,7 @@ pub loop-asked-preserved : goal.loop-asked-preserved
 loop-asked-preserved g c =
     let so_far = c.loop-asked.invariant in
     let all = pairs_of (types_in c.args.self.now) c.args.pair in
-    let types_of = g.T.LendsTypes.types_of in
+    let types_of = g.T.Lends.lent_by in
     elim c.match-asked.branch [
       | in-Some+in_ok-look_at w ↦ record {
         ongoing = subst IsSearch (sym w.self-is) w.in_ok-look_at.ensures.ongoing;

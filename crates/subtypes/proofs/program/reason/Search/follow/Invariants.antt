@@ -11,5 +11,5 @@ invariant-loop-asked g l = record {
   ongoing : IsSearch l.self;
   goes_on : GoesOn l.fn.self l.self;
   covered : AreCovered l.self (IsAmongFirst (pairs_of (types_in l.fn.self) l.pair) l.asked);
-  same_types : declared_in g.T.LendsTypes.types_of l.subtyping ≡ declared_in g.T.LendsTypes.types_of l.fn.subtyping;
+  same_types : declared_in g.T.Lends.lent_by l.subtyping ≡ declared_in g.T.Lends.lent_by l.fn.subtyping;
 }
