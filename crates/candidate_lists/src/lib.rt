@@ -5,11 +5,11 @@
 //! its frames, with all laws that a search asks of them, are made here. What it reads stands behind a lender, as with
 //! `question_lists` (`docs/CALLING.md` shows both):
 //!
-//!     impl<L: Lends> CandidateLists for Mine<L> { .. }
+//!     impl<L: Lends<Mine>> CandidateLists for MineOf<L> { .. }
 //!
-//!     fn ask<L: Lends>(alloc: Global, lender: L, goal: Goal, depth: usize) -> .. {
-//!         let context = ContextOf(AnyOf(Mine { lender }));
-//!         let mut cache = GlobalCache::<CandidatesDelegate<Mine<L>, 8, 1>>::new(alloc, context);
+//!     fn ask<L: Lends<Mine>>(alloc: Global, lender: L, goal: Goal, depth: usize) -> .. {
+//!         let context = ContextOf(AnyOf(MineOf { lender }));
+//!         let mut cache = GlobalCache::<CandidatesDelegate<MineOf<L>, 8, 1>>::new(alloc, context);
 //!         ..
 //!     }
 //!

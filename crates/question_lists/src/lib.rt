@@ -5,11 +5,11 @@
 //! here. What it reads stands behind a lender, so that the function which owns the cache is generic (`shapes` and
 //! `docs/CALLING.md` show one whole):
 //!
-//!     impl<L: Lends> QuestionLists for Mine<L> { .. }
+//!     impl<L: Lends<Mine>> QuestionLists for MineOf<L> { .. }
 //!
-//!     fn ask<L: Lends>(alloc: Global, lender: L, goal: Goal, depth: usize) -> .. {
-//!         let context = ContextOf(Listed(Mine { lender }));
-//!         let mut cache = GlobalCache::<ListsDelegate<Mine<L>, 8, 1>>::new(alloc, context);
+//!     fn ask<L: Lends<Mine>>(alloc: Global, lender: L, goal: Goal, depth: usize) -> .. {
+//!         let context = ContextOf(Listed(MineOf { lender }));
+//!         let mut cache = GlobalCache::<ListsDelegate<MineOf<L>, 8, 1>>::new(alloc, context);
 //!         ..
 //!     }
 //!

@@ -17,14 +17,14 @@ use std::alloc::Global;
 /// services may stand below this one on the way to an answer; as many as there are suffice.
 ///
 /// `Fault::Memory` where memory is out.
-pub fn can_run<S: Lends<[Service]>>(
+pub fn can_run<S: Lends<Vec<Service>>>(
     alloc: Global,
     services: S,
     number: usize,
     depth: usize,
 ) -> Result<Verdict, Fault<usize, Outcome>>
-    ensures yes { result ≡ Ok Yes → CanRun (S.lent_by services) number }
-    ensures no { result ≡ Ok No → CanRun (S.lent_by services) number → ⊥ }
+    ensures yes { result ≡ Ok Yes → CanRun (S.lent_by services).items number }
+    ensures no { result ≡ Ok No → CanRun (S.lent_by services).items number → ⊥ }
 {
     let context = ContextOf(Listed(RunsOf { lender: services }));
     let mut cache = GlobalCache::<ServicesDelegate<S>>::new(alloc, context);

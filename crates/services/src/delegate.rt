@@ -17,16 +17,16 @@ pub struct RunsOf<S> {
 pub type ServicesDelegate<S> = ListsDelegate<RunsOf<S>, 8, 1>;
 
 // A service needs all that it needs. What is no service needs any of no questions, so it can't run.
-impl<S: Lends<[Service]>> QuestionLists for RunsOf<S> {
+impl<S: Lends<Vec<Service>>> QuestionLists for RunsOf<S> {
     ghost use Rattle.std.proofs.Common.{rules};
 
     type Input = usize;
 
-    ghost needs_of = { λ runs number. needs_of (S.lent_by runs.lender) number };
+    ghost needs_of = { λ runs number. needs_of (S.lent_by runs.lender).items number };
 
-    ghost questions_of = { λ runs number. questions_of (S.lent_by runs.lender) number };
+    ghost questions_of = { λ runs number. questions_of (S.lent_by runs.lender).items number };
 
-    ghost most = { λ runs. most_needs (S.lent_by runs.lender) };
+    ghost most = { λ runs. most_needs (S.lent_by runs.lender).items };
 
     ghost same_input = { Prim.search rules };
 
@@ -38,11 +38,11 @@ impl<S: Lends<[Service]>> QuestionLists for RunsOf<S> {
     }
 
     fn count(self, number: usize) -> usize {
-        needs_at(self.lender.lent(), number).len()
+        needs_at(self.lender.lent().as_slice(), number).len()
     }
 
     fn question(self, number: usize, place: usize) -> (PathKind, usize) {
-        match needs_at(self.lender.lent(), number).get(place) {
+        match needs_at(self.lender.lent().as_slice(), number).get(place) {
             Some(need) => (need.kind(), need.service),
             None => (PathKind::Inductive, number), // there is one
         }

@@ -82,7 +82,7 @@ fn tell(alloc: Global, needed: &[Needed], depth: usize) -> Result<Vec<u8>, Fail>
         add(&mut needs, beside, false)?;
         services.push(Service { needs })?;
     }
-    tell_each::<&[Service]>(alloc, services.as_slice(), needed.len(), depth)
+    tell_each::<&Vec<Service>>(alloc, &services, needed.len(), depth)
 }
 
 fn add(needs: &mut Vec<Need>, numbers: &[usize], comes_first: bool) -> Result<(), Fail> {
@@ -95,7 +95,7 @@ fn add(needs: &mut Vec<Need>, numbers: &[usize], comes_first: bool) -> Result<()
     Ok(())
 }
 
-fn tell_each<S: Lends<Services>>(
+fn tell_each<S: Lends<Vec<Service>>>(
     alloc: Global,
     services: S,
     count: usize,

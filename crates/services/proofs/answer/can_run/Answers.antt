@@ -11,8 +11,8 @@ returns-clause-yes g c = λ e.
     let shown = c.in_ok-answer.ensures.yes (c.verdict.ensures.yes.0 is) in
     let same : cache.cx.0.0.lender ≡ c.args.services =
     let made = c.new-cache.ensures in let kept = c.in_ok-answer.ensures.same_context in search rules in
-    subst (λ lent. CanRun (g.S.Lends.lent_by lent) c.args.number) same
-    (runs_at_node (g.S.Lends.lent_by cache.cx.0.0.lender)
+    subst (λ lent. CanRun (g.S.Lends.lent_by lent).items c.args.number) same
+    (runs_at_node (g.S.Lends.lent_by cache.cx.0.0.lender).items
     (graph_nodes_of cache.nodes) c.args.number _ shown.graph)
 
 pub returns-clause-no : goal.returns-clause-no
@@ -22,6 +22,6 @@ returns-clause-no g c = λ e can.
     let shown = c.in_ok-answer.ensures.no (c.verdict.ensures.no.0 is) in
     let same : cache.cx.0.0.lender ≡ c.args.services =
     let made = c.new-cache.ensures in let kept = c.in_ok-answer.ensures.same_context in search rules in
-    stuck_at_node (g.S.Lends.lent_by cache.cx.0.0.lender)
+    stuck_at_node (g.S.Lends.lent_by cache.cx.0.0.lender).items
     (graph_nodes_of cache.nodes) c.args.number _ shown.graph
-    (subst (λ lent. CanRun (g.S.Lends.lent_by lent) c.args.number) (sym same) can)
+    (subst (λ lent. CanRun (g.S.Lends.lent_by lent).items c.args.number) (sym same) can)

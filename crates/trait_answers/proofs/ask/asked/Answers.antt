@@ -11,8 +11,8 @@ returns-in-Ok-clause-yes g c = λ e.
     let table = g.L.Lends.lent_by in
     let cache = c.evaluated.new.cache in
     let shown = c.in-Ok.ensures.yes (ap is_yes e) in
-    let told : c.goals.result.now ≡ table c.args.cache.now.cx.0.0.lender =
-    let lent = c.goals.ensures in let cx = c.cx.ensures in search rules in
+    let told : c.lent.result.now ≡ table c.args.cache.now.cx.0.0.lender =
+    let lent = c.lent.ensures in let cx = c.cx.ensures in search rules in
     let right = subst AreRight told c.asked-asked.ensures.right in
     let same = c.evaluated.ensures.same_context in
     subst (λ cx. IsImplemented (table cx.0.0.lender) c.args.goal) same
@@ -24,8 +24,8 @@ returns-in-Ok-clause-no g c = λ e.
     let table = g.L.Lends.lent_by in
     let cache = c.evaluated.new.cache in
     let shown = c.in-Ok.ensures.no (ap is_no e) in
-    let told : c.goals.result.now ≡ table c.args.cache.now.cx.0.0.lender =
-    let lent = c.goals.ensures in let cx = c.cx.ensures in search rules in
+    let told : c.lent.result.now ≡ table c.args.cache.now.cx.0.0.lender =
+    let lent = c.lent.ensures in let cx = c.cx.ensures in search rules in
     let right = subst AreRight told c.asked-asked.ensures.right in
     let same = c.evaluated.ensures.same_context in
     subst (λ cx. IsNotImplemented (table cx.0.0.lender) c.args.goal) same
@@ -37,8 +37,8 @@ returns-in-Ok-clause-told g c = λ can ready.
     let old = c.args.cache.now in
     let table = g.L.Lends.lent_by old.cx.0.0.lender in
     let graph = c.renew.new.self in
-    let lent : c.goals.result.now ≡ table =
-    let lent = c.goals.ensures in let cx = c.cx.ensures in search rules in
+    let lent : c.lent.result.now ≡ table =
+    let lent = c.lent.ensures in let cx = c.cx.ensures in search rules in
     let right = subst AreRight lent c.asked-asked.ensures.right in
     let deep = ap (λ graph. graph.root_depth) c.renew.ensures in
     let runs = enough _ _ _ table old graph.root_depth c.args.goal _ right refl refl (omega arith) (λ _. refl)
@@ -52,8 +52,8 @@ returns-in-Err-clause-told g c = λ can ready.
     let old = c.args.cache.now in
     let table = g.L.Lends.lent_by old.cx.0.0.lender in
     let graph = c.renew.new.self in
-    let lent : c.goals.result.now ≡ table =
-    let lent = c.goals.ensures in let cx = c.cx.ensures in search rules in
+    let lent : c.lent.result.now ≡ table =
+    let lent = c.lent.ensures in let cx = c.cx.ensures in search rules in
     let right = subst AreRight lent c.asked-asked.ensures.right in
     let deep = ap (λ graph. graph.root_depth) c.renew.ensures in
     let runs = enough _ _ _ table old graph.root_depth c.args.goal _ right refl refl (omega arith) (λ _. refl)

@@ -11,5 +11,5 @@ returns-clause-falls g c =
     falls_at (candidates_of (rules_of q.cx.lender) q.goal) (candidates_of (rules_of frame.lender) frame.goal) _
     frame.state _ q.replies c.args.reply
     (ap₂ candidates_of q.stood.same_rules q.stood.same_goal)
-    (c.candidates-candidates.ensures ∙ ap (λ x. candidates_of x frame.goal) c.rules.ensures)
+    (c.candidates-candidates.ensures ∙ ap (λ x. candidates_of x frame.goal) c.lent.ensures)
     q.stood.state c.after-frame.ensures q.is_fitting

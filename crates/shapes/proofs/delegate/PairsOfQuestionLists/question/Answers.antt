@@ -12,5 +12,5 @@ returns g c =
     let found : c.parts_at.result
     ≡ parts_at (matched_parts (equations_of shapes) c.args.pair.left c.args.pair.right) c.args.place =
     c.parts_at.ensures ∙ ap
-    (λ s. parts_at (matched_parts (equations_of s) c.args.pair.left c.args.pair.right) c.args.place) c.shapes.ensures in
+    (λ s. parts_at (matched_parts (equations_of s) c.args.pair.left c.args.pair.right) c.args.place) c.lent.ensures in
     search rules

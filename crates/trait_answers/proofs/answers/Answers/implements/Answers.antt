@@ -6,8 +6,8 @@ use Rattle.trait_answers.proofs.answers.Answers.implements.Goals as goal
 pub returns-then-goal-count-clause-told : goal.returns-then-goal-count-clause-told
 returns-then-goal-count-clause-told g c = λ had can.
     let table = g.L.Lends.lent_by c.args.self.now.cache.cx.0.0.lender in
-    let lent : c.goals.result.now ≡ table =
-    let lent = c.goals.ensures in let cx = c.cx.ensures in search rules in
+    let lent : c.lent.result.now ≡ table =
+    let lent = c.lent.ensures in let cx = c.cx.ensures in search rules in
     let many : c.len-count.result ≡ length table.asked = c.len-count.ensures ∙ ap (λ t. length t.asked) lent in
     let within : c.args.goal < length table.asked = can.is_goal in
     absurd (omega (arith, many, within))
@@ -15,8 +15,8 @@ returns-then-goal-count-clause-told g c = λ had can.
 pub returns-then-goal-count-clause-deep : goal.returns-then-goal-count-clause-deep
 returns-then-goal-count-clause-deep g c =
     let table = g.L.Lends.lent_by c.args.self.now.cache.cx.0.0.lender in
-    let lent : c.goals.result.now ≡ table =
-    let lent = c.goals.ensures in let cx = c.cx.ensures in search rules in
+    let lent : c.lent.result.now ≡ table =
+    let lent = c.lent.ensures in let cx = c.cx.ensures in search rules in
     let many : c.len-count.result ≡ length table.asked = c.len-count.ensures ∙ ap (λ t. length t.asked) lent in
     subst (λ n. c.has_depth-self.result ≡ (c.args.self.now.had_depth && nat_le n c.args.depth)) many
     c.has_depth-self.ensures
@@ -25,8 +25,8 @@ pub invariant_of-self : goal.invariant_of-self
 invariant_of-self g c =
     let old = c.args.self.now in
     let table = g.L.Lends.lent_by old.cache.cx.0.0.lender in
-    let lent : c.goals.result.now ≡ table =
-    let lent = c.goals.ensures in let cx = c.cx.ensures in search rules in
+    let lent : c.lent.result.now ≡ table =
+    let lent = c.lent.ensures in let cx = c.cx.ensures in search rules in
     let many : c.len-count.result ≡ length table.asked = c.len-count.ensures ∙ ap (λ t. length t.asked) lent in
     record {
       ready = ready_still _ table c.args.goal old.had_depth c.has_depth-self.result c.args.depth old.cache
@@ -39,8 +39,8 @@ pub invariant_of-self-2 : goal.invariant_of-self-2
 invariant_of-self-2 g c =
     let old = c.args.self.now in
     let table = g.L.Lends.lent_by old.cache.cx.0.0.lender in
-    let lent : c.goals.result.now ≡ table =
-    let lent = c.goals.ensures in let cx = c.cx.ensures in search rules in
+    let lent : c.lent.result.now ≡ table =
+    let lent = c.lent.ensures in let cx = c.cx.ensures in search rules in
     let many : c.len-count.result ≡ length table.asked = c.len-count.ensures ∙ ap (λ t. length t.asked) lent in
     let less : c.args.goal < length table.asked = omega (arith, many) in
     record {
@@ -76,8 +76,8 @@ returns-clause-faults g c = λ had can.
 pub returns-clause-deep : goal.returns-clause-deep
 returns-clause-deep g c =
     let table = g.L.Lends.lent_by c.args.self.now.cache.cx.0.0.lender in
-    let lent : c.goals.result.now ≡ table =
-    let lent = c.goals.ensures in let cx = c.cx.ensures in search rules in
+    let lent : c.lent.result.now ≡ table =
+    let lent = c.lent.ensures in let cx = c.cx.ensures in search rules in
     let many : c.len-count.result ≡ length table.asked = c.len-count.ensures ∙ ap (λ t. length t.asked) lent in
     subst (λ n. c.has_depth-self.result ≡ (c.args.self.now.had_depth && nat_le n c.args.depth)) many
     c.has_depth-self.ensures
