@@ -24,6 +24,8 @@ from typing import NamedTuple
 # How many goals are looked at for a question before the others are taken to be unknown.
 BOUND = 600
 DEFAULT_LIMIT = 128
+# The attributes that set how a lint is told.
+LEVELS = ("allow", "warn", "deny", "forbid")
 PRIMITIVES = set("bool char str i8 i16 i32 i64 i128 isize u8 u16 u32 u64 u128 usize f32 f64".split())
 KEYWORDS = set(
     "as async await break const continue crate dyn else enum extern false fn for gen if impl in let loop match mod "
@@ -440,7 +442,7 @@ class Reader:
         """Whether a type stands here, and no item."""
         if self.is_next("fn"):
             return self.is_next("(", 1)
-        item = ("struct", "enum", "trait", "impl", "unsafe", "pub")
+        item = ("struct", "enum", "trait", "impl", "unsafe", "pub", "use")
         return not any(map(self.is_next, item)) and not (self.is_next("auto") and self.is_next("trait", 1))
 
     def item_after(self, start):
@@ -454,11 +456,27 @@ class Reader:
             return self.impl(self.words[self.at - 1])
         if is_unsafe:
             self.refuse("`impl` or `trait` is expected here")
+        if self.take("use"):
+            return self.use()
         if self.take("struct"):
             return self.struct()
         if self.take("enum"):
             return self.enum()
         return self.function(start) if self.take("fn") else self.refuse("no item begins so")
+
+    def use(self):
+        """What is brought in has to be declared all the same."""
+        self.used()
+        self.expect(";")
+
+    def used(self):
+        if self.take("{"):
+            return self.list_until("}", self.used)
+        if self.take("*"):
+            return None
+        if not any(map(self.take, ("crate", "self", "super"))):
+            self.name()
+        return self.used() if self.take("::") else None
 
     def attribute(self, token):
         whole = self.take("!")
@@ -473,7 +491,9 @@ class Reader:
         elif not whole and self.take("rustc_coinductive"):
             self.expect("]")
             self.marked = True
-        elif (whole and self.take("feature")) or self.take("allow"):
+        elif not whole and self.take("marker"):
+            self.expect("]")
+        elif (whole and self.take("feature")) or any(map(self.take, LEVELS)):
             self.expect("(")
             self.list_until(")", self.lint)
             self.expect("]")
