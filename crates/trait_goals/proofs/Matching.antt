@@ -111,6 +111,20 @@ head_told made rule subject found only types term stands is = record {
       stands));
 }
 
+-- what is said of the head's shape is said of the rule's type
+pub head_shaped : (rule : Rule) (types : ℕ → Term) (term : Term) (shape : Shape) → IsInstance rule types term →
+    slice_get rule.shapes.items rule.head ≡ Some shape → IsShaped types shape term
+head_shaped rule types term shape is e = subst (λ t. IsShaped types shape t) is.is_head (is.shaped rule.head shape e)
+
+-- nothing is known
+pub nothing_told : (made : List Made) (found : List (Option ℕ)) (types : ℕ → Term) → found ≡ [] →
+    AreTold made found types
+nothing_told made found types none = record {
+  told = λ place number e.
+      let there : slice_get [] place ≡ Some (Some number) =
+      subst (λ (l : List (Option ℕ)). slice_get l place ≡ Some (Some number)) none e in absurd cc;
+}
+
 pub is_apart : (b : Bool) → b ≡ true → b ≡ false → ⊥
 is_apart b t f = cc
 

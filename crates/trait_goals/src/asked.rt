@@ -34,6 +34,15 @@ impl Key for Asked {
     ghost use Rattle.std.proofs.Common.{rules};
 
     ghost same_key = { Prim.search rules };
+
+    // The goals of a type mostly come together, one for each trait in turn.
+    fn row(&self) -> usize {
+        self.subject
+    }
+
+    fn column(&self) -> usize {
+        self.bound
+    }
 }
 
 /// The goals that a rule asks, by their numbers. There are fewer than 2 to the power 32.

@@ -64,6 +64,15 @@ impl Goals {
         self.asked.len()
     }
 
+    /// Makes room for so many goals more.
+    pub fn reserve(&mut self, more: usize) -> Result<(), NoMemory>
+        ensures { Extends self.old self.new }
+    {
+        self.asked.reserve(more)?;
+        self.known.reserve(more)?;
+        Ok(())
+    }
+
     /// The number of a goal, which is the next one where the goal is new. There is none where no type has the number of the
     /// goal's.
     pub fn goal(&mut self, asked: Asked) -> Result<Option<usize>, NoMemory>

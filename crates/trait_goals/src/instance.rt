@@ -146,6 +146,11 @@ fn match_head(
     ensures { IfOk result (λ is_for. (types : ℕ → Term) (term : Term) → Stands terms.now subject term →
         IsInstance rule.now types term → (is_for ≡ true) × AreTold terms.now found.new.items types) }
 {
+    if let Some(Shape::Constructor(wanted)) = at(rule.shapes.as_slice(), rule.head) {
+        // It has no parts.
+        found.clear();
+        return Ok(match_shape(terms, Shape::Constructor(wanted), subject, found));
+    }
     note_head(found, rule, subject)?;
     for place in (0..rule.shapes.len()).rev() {
         if !match_at(terms, rule, place, found) {

@@ -73,16 +73,45 @@ pub fn make_known(
 }
 
 impl Visit {
-    // Goes on to the next question, if there is one.
-    fn next_question(&mut self, goals: &Goals) -> Option<usize> {
+    // Goes on to the next question that is to be gone into, if there is one, and how deep. Those that are passed are counted.
+    fn next_question(
+        &mut self,
+        goals: &Goals,
+        seen: &[Seen],
+        steps: &mut usize,
+    ) -> Option<(usize, usize)> {
         let known = goals.candidates(self.goal)?;
         for candidate in self.candidate..known.all.len() {
             self.candidate = candidate;
-            if let Some(goal) = known.all[candidate].questions.get(self.place) {
-                self.place = self.place.saturating_add(1);
-                return Some(*goal);
+            let questions = known.all[candidate].questions.as_slice();
+            let next = self.next_of(questions, seen, steps);
+            if next.is_some() {
+                return next;
             }
             self.place = 0;
+        }
+        None
+    }
+
+    // The same for the questions of its candidate.
+    fn next_of(
+        &mut self,
+        questions: &[usize],
+        seen: &[Seen],
+        steps: &mut usize,
+    ) -> Option<(usize, usize)> {
+        for place in self.place..questions.len() {
+            let goal = questions[place];
+            if let Some(depth) = self.depth_below() {
+                match seen.get(goal) {
+                    Some(seen) if seen.depth > depth => self.is_cut_off |= seen.is_cut_off,
+                    _ => {
+                        self.place = place + 1;
+                        return Some((goal, depth));
+                    }
+                }
+            }
+            *steps = steps.saturating_add(1);
         }
         None
     }
@@ -117,54 +146,43 @@ impl Scout {
 
     // Goes on to the next goal that is not known. It is gone through when this is called again.
     fn next(&mut self, goals: &Goals) -> Result<Option<usize>, NoMemory> {
+        let mut steps = 0;
         for _ in 0..STEPS {
             let wanted = match self.open.last_mut() {
                 Some(visit) => {
-                    let question = visit.next_question(goals);
-                    self.go_on(goals, question)?
+                    let next = visit.next_question(goals, self.seen.as_slice(), &mut steps);
+                    self.go_on(goals, next)?
                 }
                 None => match self.asked.pop() {
                     Some(goal) => self.begin(goals, goal, self.depth)?,
                     None => return Ok(None),
                 },
             };
+            if steps >= STEPS {
+                return Ok(None);
+            }
             if wanted.is_some() {
                 return Ok(wanted);
             }
+            steps += 1;
         }
         Ok(None)
     }
 
-    // Goes on with the newest goal, of which this is the next question.
-    fn go_on(&mut self, goals: &Goals, question: Option<usize>) -> Result<Option<usize>, NoMemory> {
-        match (question, self.open.last_mut()) {
-            (Some(goal), Some(visit)) => match visit.depth_below() {
-                Some(depth) => self.enter(goals, goal, depth),
-                None => Ok(None),
-            },
-            _ => {
-                self.leave();
-                Ok(None)
-            }
-        }
-    }
-
-    // Goes into the goal, unless that was done with as much depth. It is returned if it is not known.
-    fn enter(
+    // Goes into the goal of this question, at this depth, or else back from the newest goal. A goal is returned if it is not known.
+    fn go_on(
         &mut self,
         goals: &Goals,
-        goal: usize,
-        depth: usize,
+        question: Option<(usize, usize)>,
     ) -> Result<Option<usize>, NoMemory> {
-        match self.seen.get(goal) {
-            Some(seen) if seen.depth > depth => {
-                let is_cut_off = seen.is_cut_off;
-                self.note(is_cut_off);
-                Ok(None)
-            }
-            _ => {
+        match question {
+            Some((goal, depth)) => {
                 self.set_depth(goal, depth)?;
                 self.begin(goals, goal, depth)
+            }
+            None => {
+                self.leave();
+                Ok(None)
             }
         }
     }

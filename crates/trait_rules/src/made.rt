@@ -15,4 +15,12 @@ impl Key for Made {
     ghost use Rattle.std.proofs.Common.{rules};
 
     ghost same_key = { Prim.search rules };
+
+    // Most questions are for types without arguments.
+    fn row(&self) -> usize {
+        match self {
+            Made::Constructor(constructor) => *constructor,
+            Made::Applied(_, _) => usize::MAX,
+        }
+    }
 }

@@ -9,15 +9,10 @@ use path_kinds::memory::NoMemory;
 use std::alloc::Global;
 use std::marker::Model;
 
-/// Constructors of greater numbers are looked up each time.
-const MOST: usize = 1 << 24;
-
 /// Types, each with one number. The parts of a type come before it.
 #[derive(Drop)]
 pub struct Terms {
     made: Numbered<Made>,
-    // By the number of a constructor that of its type without arguments, as far as it was told: most questions are for these.
-    alone: Vec<usize>,
 }
 
 impl Model for Terms {
@@ -41,7 +36,6 @@ impl Terms {
     {
         Terms {
             made: Numbered::new(alloc),
-            alone: Vec::new(alloc),
         }
     }
 
@@ -69,24 +63,8 @@ impl Terms {
             slice_get self.new number ≡ Some (Constructor constructor)) }
         ensures keeps { Keeps self.old self.new }
     {
-        if let Some(number) = self.told(constructor) {
-            return Ok(number);
-        }
         let number = self.made.intern(Made::Constructor(constructor))?;
-        note(&mut self.alone, constructor, number)?;
         Ok(number)
-    }
-
-    // The number that was told of a constructor.
-    fn told(&self, constructor: usize) -> Option<usize>
-        ensures { IfSome result (λ number.
-            slice_get self.now number ≡ Some (Constructor constructor)) }
-    {
-        let number = self.alone.get(constructor).copied()?;
-        match self.made.get(number) {
-            Some(Made::Constructor(other)) if other == constructor => Some(number),
-            _ => None,
-        }
     }
 
     /// The number of a type with one argument more. There is none where one of the numbers is no type's.
@@ -115,18 +93,4 @@ impl Terms {
             }
         }
     }
-}
-
-// Notes the number that is told of a constructor.
-fn note(alone: &mut Vec<usize>, constructor: usize, number: usize) -> Result<(), NoMemory> {
-    if constructor >= MOST {
-        return Ok(());
-    }
-    for _ in alone.len()..constructor + 1 {
-        alone.push(usize::MAX)?;
-    }
-    if let Some(told) = alone.get_mut(constructor) {
-        *told = number;
-    }
-    Ok(())
 }

@@ -1,4 +1,5 @@
-use Rattle.trait_goals.proofs.Matching.{head_told, is_apart}
+use Rattle.std.proofs.Common.{Some, ap, ◌∙◌}
+use Rattle.trait_goals.proofs.Matching.{head_shaped, head_told, is_apart, nothing_told, read_at}
 use Rattle.trait_goals.proofs.instance.match_head.Goals as goal
 
 pub loop-place-init : goal.loop-place-init
@@ -12,3 +13,10 @@ returns-then-not-match_at c = λ types term stands is.
 pub loop-place-preserved : goal.loop-place-preserved
 loop-place-preserved c = λ types term stands is.
     (c.match_at.ensures types term (c.loop-place.invariant types term stands is) is).1
+
+pub returns-in-Some-Constructor : goal.returns-in-Some-Constructor
+returns-in-Some-Constructor c = λ types term stands is.
+    let head = read_at c.args.rule.now.shapes.items _ _ c.in-Some-Constructor.field-0 c.as_slice.ensures.value
+    c.in-Some-Constructor.ensures in
+    c.match_shape.ensures types term (nothing_told _ _ types c.clear.ensures.items) stands
+    (head_shaped c.args.rule.now types term _ is (head ∙ ap (λ s. Some s) c.in-Some-Constructor.field-0-is))

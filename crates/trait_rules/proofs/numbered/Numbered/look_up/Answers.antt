@@ -1,8 +1,6 @@
-use Rattle.std.proofs.Common.{◌≡◌, Some, refl, sym, subst, arith}
-use Rattle.std.specs.Prelude.{slice_get}
-use Rattle.trait_rules.specs.Numbered.{Keeps}
+use Rattle.std.proofs.Common.{arith}
 use Rattle.trait_rules.proofs.Numbers.{at_end, grows_push, keeps_push, numbered_push}
-use Rattle.trait_rules.proofs.numbered.Numbered.intern.Goals as goal
+use Rattle.trait_rules.proofs.numbered.Numbered.look_up.Goals as goal
 
 pub invariant_of-self-2 : goal.invariant_of-self-2
 invariant_of-self-2 g c =
