@@ -5,6 +5,7 @@ ghost use Rattle.reach.specs.Paths.{IsWrittenBefore};
 ghost use Rattle.reach.specs.Program.{blocks_of};
 
 use crate::delegate::{Point, PointsOf, ReachDelegate};
+use crate::program::Program;
 use delegate_parts::{Builder, Lends, Outcome};
 use question_lists::{ContextOf, Listed};
 use search_context::context::NoMemory;
