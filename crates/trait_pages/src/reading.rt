@@ -37,6 +37,8 @@ pub fn all_goals(
         AreGoalsOf goals.old.made goals.new questions.now numbers.items) }
 {
     let mut asked = Vec::with_capacity(alloc, questions.len())?;
+    // Rules ask some goals more.
+    goals.reserve(questions.len().saturating_add(questions.len() / 8))?;
     for question in questions {
         let goal = goals.goal(Asked {
             subject: question.subject,
