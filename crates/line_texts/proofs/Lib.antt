@@ -1,5 +1,6 @@
 pub mod FirstWords
 pub mod NameLemmas
+pub mod LinkLemmas
 pub mod Bytes
 pub mod Written
 pub mod Questions

@@ -1,6 +1,6 @@
 -- Names and their numbers.
 use Rattle.std.proofs.Common.{◌≡◌, ℕ, zero, suc, ◌+◌, ◌<◌, Bool, true, false, not, cond, ◌||◌, List, [], ◌∷◌, ◌++◌}
-use Rattle.std.proofs.Common.{length, map, Option, Some, None, refl, ap, sym, ◌∙◌, subst, arith, inl, inr, ◌⊎◌}
+use Rattle.std.proofs.Common.{length, map, Some, None, refl, ap, sym, ◌∙◌, subst, arith, inl, inr, ◌⊎◌}
 use Rattle.std.specs.Prelude.{min, slice_get, nat_lt, ◌↔◌}
 use Rattle.std.specs.List.{AllByRecursion, IsDistinct, list_any, position, position_or_len}
 use Rattle.std.specs.Str.{bytes_eq}
@@ -8,14 +8,9 @@ use Rattle.std.proofs.lemmas.Bool.{cases_Bool}
 use Rattle.std.proofs.lemmas.Bool.Decides.{nat_tests}
 use Rattle.std.proofs.lemmas.List.{length-map, length-take, map-append}
 use Rattle.std.proofs.lemmas.Option.{slice_get_within}
-use Rattle.std.proofs.lemmas.List.Folds.{position_or_len_push}
-use Rattle.std.proofs.lemmas.List.Sums.{prefix_len-le-length}
-use Rattle.std.proofs.lemmas.Map.Keys.{IsDistinct-head, IsDistinct-push, IsDistinct-tail}
-use Rattle.std.proofs.Math.ListN.{length-append}
-use Rattle.std.specs.Cmp.{on_equiv}
-use Rattle.std.specs.Cmp.Lexicographic.{nat_list_eq_equiv}
+use Rattle.std.proofs.lemmas.Map.Keys.{IsDistinct-head, IsDistinct-tail}
 use Rattle.std.proofs.lemmas.Slice.Eq.{bytes_eq-Decides}
-use Rattle.line_texts.specs.Names.{AreNumbered, same_name, text_of, with_name}
+use Rattle.line_texts.specs.Names.{same_name, text_of, with_name}
 use Rattle.line_texts.specs.declared.names.name.Name.{Name}
 
 own_name : (name : List ℕ) → bytes_eq name name ≡ true
@@ -92,7 +87,7 @@ with_new names name none = elim (cases_Bool (list_any (bytes_eq name) names)) [
 abbrev is_named : List ℕ → Name → Bool
 is_named name key = bytes_eq name (text_of key)
 
-differs : (a b : List ℕ) → bytes_eq a b ≡ false → bytes_eq b a ≡ false
+pub differs : (a b : List ℕ) → bytes_eq a b ≡ false → bytes_eq b a ≡ false
 differs a b other = elim (cases_Bool (bytes_eq b a)) [
   | inl same ↦ let e : bytes_eq a b ≡ true = (bytes_eq-Decides a b).1 (sym ((bytes_eq-Decides b a).0 same)) in absurd cc
   | inr w ↦ w
@@ -108,7 +103,7 @@ other_behind key (x ∷ keys) name zero apart e = differs (text_of key) name
 other_behind key (x ∷ keys) name (suc n) apart e = other_behind key keys name n apart.1 e
 
 -- where no two names are the same, the first place of a name is the only one
-first_place : (keys : List Name) (name : List ℕ) (n : ℕ) → IsDistinct same_name keys
+pub first_place : (keys : List Name) (name : List ℕ) (n : ℕ) → IsDistinct same_name keys
     → slice_get (map text_of keys) n ≡ Some name → position_or_len (is_named name) keys ≡ n
 first_place [] name n apart e = absurd cc
 first_place (x ∷ keys) name zero apart e =
@@ -160,16 +155,6 @@ number_is keys name apart n =
         let test : nat_lt (position_or_len (is_named name) keys) (length keys) ≡ true = grind (arith, nat_tests) in
         rw test (ap Some first)
 
--- the number of a name says where it stands
-pub number_tells : (number : Name → Option ℕ) (keys : List Name) (key : Name) (name : List ℕ) (found : Option ℕ) →
-    AreNumbered number keys → text_of key ≡ name → found ≡ number key →
-    (n : ℕ) → (found ≡ Some n) ↔ (slice_get (map text_of keys) n ≡ Some name)
-number_tells number keys key name found numbered text is n =
-    let at = number_is keys name numbered.distinct n in
-    let place : found ≡ position (is_named name) keys =
-    is ∙ (numbered.agrees key ∙ ap (λ text. position (is_named text) keys) text) in
-    (λ some. at.0 (sym place ∙ some), λ there. place ∙ at.1 there)
-
 -- no name is longer than a name may be
 pub none_is_longer : (keys : List Name) (name : List ℕ) (n : ℕ) → 16 < length name
     → slice_get (map text_of keys) n ≡ Some name → ⊥
@@ -181,47 +166,13 @@ none_is_longer (x ∷ keys) name zero long at =
 none_is_longer (x ∷ keys) name (suc n) long at = none_is_longer keys name n long at
 
 -- a name without a place is not among the names
-not_among : (keys : List Name) (key : Name) → ((n : ℕ) → slice_get (map text_of keys) n ≡ Some (text_of key) → ⊥)
+pub not_among : (keys : List Name) (key : Name) → ((n : ℕ) → slice_get (map text_of keys) n ≡ Some (text_of key) → ⊥)
     → list_any (same_name key) keys ≡ false
 not_among [] key none = refl
 not_among (x ∷ keys) key none = elim (cases_Bool (same_name key x)) [
   | inl same ↦ absurd (none 0 (ap Some (sym ((bytes_eq-Decides (text_of key) (text_of x)).0 same))))
   | inr other ↦ rw other (not_among keys key (λ n. none (suc n)))
 ]
-
--- the first place at which p passes, in a list with one more element
-position_push_new : {A : Type 0} (p : A → Bool) (xs : List A) (y : A) → position p xs ≡ None → p y ≡ true
-    → position p (xs ++ y ∷ []) ≡ Some (length xs)
-position_push_new p xs y none passes =
-    grind (arith, nat_tests, position_or_len_push, prefix_len-le-length, length-append)
-
-position_push_old : {A : Type 0} (p : A → Bool) (xs : List A) (y : A) → p y ≡ false
-    → position p (xs ++ y ∷ []) ≡ position p xs
-position_push_old p xs y fails = grind (arith, nat_tests, position_or_len_push, prefix_len-le-length, length-append)
-
--- one more name gets the next number
-pub numbered_push : (number number' : Name → Option ℕ) (keys all : List Name) (key : Name) (n : ℕ) →
-    AreNumbered number keys → ((m : ℕ) → slice_get (map text_of keys) m ≡ Some (text_of key) → ⊥) →
-    n ≡ length keys → all ≡ keys ++ key ∷ [] →
-    ((q : Name) → number' q ≡ cond (same_name key q) (Some n) (number q)) → AreNumbered number' all
-numbered_push number number' keys all key n numbered none is_length is_all at = rw is_all (record {
-  agrees = λ q. agrees q (same_name key q) refl;
-  distinct = IsDistinct-push (on_equiv text_of nat_list_eq_equiv) keys key numbered.distinct (not_among keys key none);
-})
-  where
-    absent : (place : Option ℕ) → position (is_named (text_of key)) keys ≡ place
-        → position (is_named (text_of key)) keys ≡ None
-    absent None is = is
-    absent (Some m) is = absurd (none m ((number_is keys (text_of key) numbered.distinct m).0 is))
-
-    agrees : (q : Name) (b : Bool) → same_name key q ≡ b → number' q ≡ position (same_name q) (keys ++ key ∷ [])
-    agrees q true is =
-        let same : text_of key ≡ text_of q = (bytes_eq-Decides (text_of key) (text_of q)).0 is in
-        let nowhere = subst (λ text. position (is_named text) keys ≡ None) same (absent _ refl) in
-        let passes : is_named (text_of q) key ≡ true = (bytes_eq-Decides (text_of q) (text_of key)).1 (sym same) in
-        at q ∙ rw is (ap Some is_length ∙ sym (position_push_new (is_named (text_of q)) keys key nowhere passes))
-    agrees q false is = at q ∙ rw is (numbered.agrees q
-        ∙ sym (position_push_old (is_named (text_of q)) keys key (differs (text_of key) (text_of q) is)))
 
 -- the texts of the names with one more
 pub texts_grown : (keys all : List Name) (key : Name) (name : List ℕ) → text_of key ≡ name → all ≡ keys ++ key ∷ []

@@ -3,31 +3,33 @@ ghost use Rattle.std.specs.Prelude.{◌≡◌, ◌↔◌, ◌≤◌, ℕ, List, 
 ghost use Rattle.std.specs.Option.{option_copied};
 ghost use Rattle.line_texts.specs.Names.{with_name};
 
+mod links;
 mod name;
 
+use crate::names::links::{find, link, linked};
 use crate::names::name::{MOST, Name};
 use std::alloc::{AllocError, Global};
-use std::collections::HashMap;
 use std::marker::Model;
 
 /// Distinct names, each with a number: its place in the order in which they came.
 #[derive(Drop)]
 pub struct Names {
+    alloc: Global,
     names: Vec<Name>,
-    numbers: HashMap<Name, usize>,
+    heads: usize,
+    links: Vec<u32>,
 }
 
 impl Model for Names {
     ghost use Rattle.std.specs.Prelude.{ℕ, List, map};
-    ghost use Rattle.std.specs.HashMap as hash;
 
     ghost Value = { List (List ℕ) };
 
-    ghost use Rattle.line_texts.specs.Names.{text_of, same_name, AreNumbered};
+    ghost use Rattle.line_texts.specs.Names.{text_of, AreFound};
 
     ghost view = { λ names. map text_of names.names.items };
 
-    ghost invariant = { λ names. AreNumbered (hash.get same_name names.numbers) names.names.items };
+    ghost invariant = { λ names. AreFound names.heads names.links.items names.names.items };
 }
 
 impl Names {
@@ -36,8 +38,10 @@ impl Names {
         ensures { result ≡ [] }
     {
         Names {
+            alloc,
             names: Vec::new(alloc),
-            numbers: HashMap::new(alloc),
+            heads: 0,
+            links: Vec::new(alloc),
         }
     }
 
@@ -45,14 +49,12 @@ impl Names {
     pub fn number(&self, name: &[u8]) -> Option<usize>
         ensures { (n : ℕ) → (result ≡ Some n) ↔ (slice_get self.now n ≡ Some name.now) }
     {
-        let numbers = &self.numbers;
+        let names = &self.names;
         if name.len() > MOST {
             return None;
         }
-        match numbers.get(&Name::new(name)) {
-            Some(number) => Some(*number),
-            None => None,
-        }
+        let wanted = Name::new(name);
+        find(names.as_slice(), self.heads, self.links.as_slice(), &wanted)
     }
 
     /// How many names there are.
@@ -82,7 +84,12 @@ impl Names {
         let number = self.names.len();
         let name = Name::new(name);
         self.names.reserve(1)?;
-        self.numbers.insert(name, number)?;
+        if number == self.heads {
+            let heads = number.saturating_mul(2).max(8);
+            self.links = linked(self.alloc, self.names.as_slice(), heads)?;
+            self.heads = heads;
+        }
+        link(&mut self.links, self.heads, name.letters(), number);
         self.names.push_reserved(name);
         Ok(number)
     }

@@ -1,21 +1,20 @@
-//! A name. Its bytes are hashed at once.
-ghost use Rattle.std.specs.Prelude.{◌≡◌, ◌≤◌, ◌∷◌, [], length, take};
+//! A name.
+ghost use Rattle.std.specs.Prelude.{◌≡◌, ◌≤◌, length, take};
 ghost use Rattle.std.specs.Cmp.{on_equiv, on_per, partial_equiv_from_equiv};
-ghost use Rattle.std.specs.Cmp.Lexicographic.{bytes_decides, lists_equiv, nat_list_eq_equiv};
+ghost use Rattle.std.specs.Cmp.Lexicographic.{nat_list_eq_equiv};
 ghost use Rattle.std.specs.Str.{bytes_eq};
-ghost use Rattle.std.proofs.Common.{ap};
-
-use std::hash::{Hash, Hasher};
+ghost use Rattle.line_texts.specs.Letters.{letters_of, padded};
 
 /// So many bytes has the longest name.
 pub(super) const MOST: usize = 16;
 
-/// A name. There are many, so their bytes lie within them.
+/// A name. There are many, so their bytes lie within them, and zeros behind.
 #[derive(Clone, Copy)]
 pub(super) struct Name {
     bytes: [u8; MOST],
     length: u8,
     ghost is_short: { length ≤ 16 },
+    ghost is_padded: { bytes ≡ padded (take length bytes) },
 }
 
 const _: () = prove!(size_of::<Name>() == 17);
@@ -38,15 +37,12 @@ impl Name {
     {
         &self.bytes[..self.length as usize]
     }
-}
 
-impl Hash for Name {
-    ghost hash_input = { λ name. take name.length name.bytes ∷ [] };
-
-    ghost respects_eq = { λ x y same. ap (λ bytes. bytes ∷ []) ((bytes_decides (take x.length x.bytes) (take y.length y.bytes)).0 same) };
-
-    fn hash<H: Hasher>(&self, state: &mut H) {
-        state.write(self.text());
+    /// The bytes as one number, which no other name has but for zeros at its end.
+    pub(super) fn letters(&self) -> u128
+        ensures { result ≡ letters_of (take self.now.length self.now.bytes) }
+    {
+        u128::from_le_bytes(self.bytes)
     }
 }
 
