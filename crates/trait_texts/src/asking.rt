@@ -16,7 +16,7 @@ enum Pending {
     Call(usize),
 }
 
-/// Functions, and questions and calls in the order of the text.
+/// Functions, and calls with the questions behind the first of them, in the order of the text.
 #[derive(Drop)]
 pub(crate) struct Asking {
     functions: Vec<Function>,
@@ -48,14 +48,23 @@ impl Asking {
         Ok(number)
     }
 
-    /// Asks all bounds of a type.
-    pub(crate) fn ask(&mut self, subject: usize, bounds: &[usize]) -> Result<(), Stop> {
+    /// Asks all bounds of a type. They are kept only behind a call: else they are asked at once.
+    pub(crate) fn ask(
+        &mut self,
+        program: &mut Program,
+        subject: usize,
+        bounds: &[usize],
+    ) -> Result<(), Stop> {
         for bound in bounds {
             let question = Question {
                 subject,
                 bound: *bound,
             };
-            push(&mut self.pending, Pending::Question(question))?;
+            if self.pending.is_empty() {
+                program.ask(question)?;
+            } else {
+                push(&mut self.pending, Pending::Question(question))?;
+            }
         }
         Ok(())
     }
@@ -67,7 +76,7 @@ impl Asking {
         push(&mut self.pending, Pending::Call(number))
     }
 
-    /// Asks all that was read, in its order.
+    /// Asks all that was kept, in its order.
     pub(crate) fn ask_all(
         &self,
         alloc: Global,
@@ -99,7 +108,7 @@ impl Asking {
 
     // The function that the word names.
     fn function(&self, lexicon: &Lexicon, word: Word) -> Result<&Function, Stop> {
-        let Some(number) = lexicon.meaning(word.name).function else {
+        let Some(number) = lexicon.function(word.name) else {
             return Err(Stop::Refused(word.place, Problem::UnknownFunction));
         };
         self.functions.get(number).ok_or(Stop::Memory)

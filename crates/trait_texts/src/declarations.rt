@@ -79,7 +79,7 @@ fn read_sources<'a>(
         AreAsked (length told.rules.traits.items) (length told.terms) told.questions.items) }
 {
     let names = Names::new(alloc)?;
-    let mut reader = Reader::new(alloc, names.len(), options)?;
+    let mut reader = Reader::new(alloc, options)?;
     let told = read_named(alloc, &mut reader, sources, names);
     // All its parts at once: a proof that they are let go is long where it is made of one for each.
     drop(reader);

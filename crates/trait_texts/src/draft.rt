@@ -179,6 +179,19 @@ impl Draft {
         Ok(is_used.iter().position(|used| !*used))
     }
 
+    /// The rule for types of the shape `head`, which has to be there, in memory that is no more than it needs.
+    pub(crate) fn copied_rule(&self, alloc: Global, head: usize) -> Result<Rule, Stop>
+        ensures well_formed { IfOk result (λ rule. IsWellFormed rule) }
+        ensures shapes { IfOk result (λ rule. rule.shapes.items ≡ self.now.shapes) }
+        ensures head { IfOk result (λ rule. rule.head ≡ head) }
+    {
+        let draft = Draft {
+            shapes: Vec::from_slice(alloc, self.shapes.as_slice())?,
+            clauses: Vec::from_slice(alloc, self.clauses.as_slice())?,
+        };
+        draft.rule(head)
+    }
+
     /// The rule for types of the shape `head`, which has to be there.
     pub(crate) fn rule(self, head: usize) -> Result<Rule, Stop>
         ensures well_formed { IfOk result (λ rule. IsWellFormed rule) }

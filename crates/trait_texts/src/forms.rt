@@ -7,6 +7,7 @@ use crate::program::Program;
 use crate::refusal::{Problem, Stop, push};
 use crate::spelling::{Form, Owner, Spelling};
 use std::alloc::Global;
+use std::collections::HashMap;
 use std::marker::Model;
 use std::mem;
 use trait_rules::{Bound, Made, Numbered, Shape};
@@ -14,7 +15,10 @@ use trait_rules::{Bound, Made, Numbered, Shape};
 /// The forms of the constructors, and the sets of traits that are in forms.
 #[derive(Drop)]
 pub(crate) struct Forms {
-    pub(crate) forms: Numbered<Form>,
+    /// By the numbers of the constructors.
+    pub(crate) forms: Vec<Form>,
+    // The numbers of those that are no paths.
+    numbers: HashMap<Form, usize>,
     /// A set is a trait, or another set with one trait more.
     pub(crate) sets: Numbered<Made>,
     /// What holds of `dyn` types, and what bodies assume.
@@ -45,7 +49,8 @@ impl Forms {
     /// No forms.
     pub(crate) fn new(alloc: Global) -> Forms {
         Forms {
-            forms: Numbered::new(alloc),
+            forms: Vec::new(alloc),
+            numbers: HashMap::new(alloc),
             sets: Numbered::new(alloc),
             facts: Vec::new(alloc),
             constants: Vec::new(alloc),
@@ -54,7 +59,8 @@ impl Forms {
         }
     }
 
-    /// The constructor of this form. With a new one come its rule by fields, if it has one whatever the text says.
+    /// The constructor of this form, which is no path. With a new one come its rule by fields, if it has one whatever the
+    /// text says.
     pub(crate) fn constructor(
         &mut self,
         alloc: Global,
@@ -62,16 +68,35 @@ impl Forms {
         form: Form,
     ) -> Result<usize, Stop> {
         let count = self.forms.len();
-        let number = self.forms.intern(form)?;
+        let number = *self.numbers.entry(form)?.or_insert(count);
         if number == count {
-            program.add_constructor(alloc)?;
-            match form {
-                Form::Dyn(_) | Form::Constant(_, _) => {}
-                Form::Path(name) if name >= PRIMITIVES.len() => {}
-                _ => enter_fields(alloc, program, number, form)?,
-            }
+            self.add(alloc, program, form)?;
         }
         Ok(number)
+    }
+
+    /// The constructor of the type of this name, which had none.
+    pub(crate) fn path(
+        &mut self,
+        alloc: Global,
+        program: &mut Program,
+        name: usize,
+    ) -> Result<usize, Stop> {
+        let number = self.forms.len();
+        self.add(alloc, program, Form::Path(name))?;
+        Ok(number)
+    }
+
+    // One more constructor.
+    fn add(&mut self, alloc: Global, program: &mut Program, form: Form) -> Result<(), Stop> {
+        let number = self.forms.len();
+        push(&mut self.forms, form)?;
+        program.add_constructor(alloc)?;
+        match form {
+            Form::Dyn(_) | Form::Constant(_, _) => Ok(()),
+            Form::Path(name) if name >= PRIMITIVES.len() => Ok(()),
+            _ => enter_fields(alloc, program, number, form),
+        }
     }
 
     /// The constructor of `dyn` with these traits, whatever their order.
@@ -161,7 +186,11 @@ impl Forms {
     /// Whether there are all parameters that questions name.
     pub(crate) fn check(&self, alloc: Global) -> Result<(), Stop> {
         let is_declared = marks_of(alloc, self.forms.len(), self.constants.as_slice())?;
-        check_named(&self.forms, self.named.as_slice(), is_declared.as_slice())
+        check_named(
+            self.forms.as_slice(),
+            self.named.as_slice(),
+            is_declared.as_slice(),
+        )
     }
 
     /// How types are written, with these names and the names of traits. No forms are left.
@@ -173,7 +202,7 @@ impl Forms {
     ) -> Spelling<'a> {
         Spelling {
             names,
-            forms: mem::replace(&mut self.forms, Numbered::new(alloc)),
+            forms: mem::replace(&mut self.forms, Vec::new(alloc)),
             sets: mem::replace(&mut self.sets, Numbered::new(alloc)),
             traits,
         }
@@ -255,11 +284,7 @@ fn push_plain(
 }
 
 // Whether all constructors that are named, each with its place, are declared.
-fn check_named(
-    forms: &Numbered<Form>,
-    named: &[(usize, usize)],
-    is_declared: &[bool],
-) -> Result<(), Stop> {
+fn check_named(forms: &[Form], named: &[(usize, usize)], is_declared: &[bool]) -> Result<(), Stop> {
     for (place, constructor) in named {
         if !is_declared.get(*constructor).copied().unwrap_or(false) {
             let problem = match forms.get(*constructor) {
@@ -289,21 +314,23 @@ fn enter_fields(
     for field in 0..fields {
         draft.ask(field, Bound::Same)?;
     }
-    finish_fields(program, constructor, arguments, draft)
+    finish_fields(alloc, program, constructor, arguments, &mut draft)
 }
 
-/// The rule by fields of a constructor with so many arguments, the parameters of the draft.
+/// The rule by fields of a constructor with so many arguments, the parameters of the draft. The draft may be used again,
+/// once it is cleared.
 pub(crate) fn finish_fields(
+    alloc: Global,
     program: &mut Program,
     constructor: usize,
     arguments: usize,
-    mut draft: Draft,
+    draft: &mut Draft,
 ) -> Result<(), Stop> {
     let mut head = draft.constructor(constructor)?;
     for argument in 0..arguments {
         head = draft.applied(head, argument)?;
     }
-    program.set_fields(draft, head)
+    program.set_fields(alloc, draft, head)
 }
 
 // These traits and those above them, each once. `met` has for each trait the number of the last fact for which it was met.

@@ -11,15 +11,16 @@ use crate::step::{Part, Row, Step};
 
 // Items and questions.
 
+// The most begin with a name, which is mostly a question's.
 const ITEMS: &[Row] = &[
+    (At("auto"), &[Pass, Go(AfterAuto), Go(Items)]),
+    (AtName, QUESTION),
     (AtEnd, &[Pass]),
     (At("#"), &[Pass, Go(Attribute), Go(Items)]),
     (At("pub"), &[Pass, Go(Public), Go(Items)]),
     (At("unsafe"), &[Pass, Go(Unsafe), Go(Items)]),
-    (At("auto"), &[Pass, Go(AfterAuto), Go(Items)]),
     (At("fn"), &[Pass, Go(AfterFn), Go(Items)]),
     (At("impl"), &[Pass, Go(AfterImpl), Go(Items)]),
-    (AtName, QUESTION),
     (At("("), QUESTION),
     (At("["), QUESTION),
     (At("&"), QUESTION),

@@ -21,44 +21,14 @@ pub(crate) enum Parameter {
     Constant(usize),
 }
 
-/// What is known of a name.
+/// What is known of the arguments of the type of a name.
 #[derive(Clone, Copy)]
-pub(crate) struct Meaning {
-    /// A type of this name takes so many arguments.
-    pub(crate) arguments: Option<usize>,
-    /// The constructor of the type of this name, once it is used.
-    pub(crate) constructor: Option<usize>,
-    /// The name of the type is its value, too.
-    pub(crate) is_unit: bool,
-    /// The number of the trait of this name.
-    pub(crate) bound: Option<usize>,
-    /// The number of the function of this name.
-    pub(crate) function: Option<usize>,
-    /// The item's parameter of this name.
-    pub(crate) parameter: Option<Parameter>,
-    /// The type of the value of this name.
-    pub(crate) value: Option<usize>,
+enum Arguments {
+    Unknown,
+    /// It is used with so many, and not declared yet.
+    Used(usize),
+    Declared(usize),
 }
-
-const NOTHING: Meaning = Meaning {
-    arguments: None,
-    constructor: None,
-    is_unit: false,
-    bound: None,
-    function: None,
-    parameter: None,
-    value: None,
-};
-
-const BUILT_IN: Meaning = Meaning {
-    arguments: Some(0),
-    constructor: None,
-    is_unit: false,
-    bound: None,
-    function: None,
-    parameter: None,
-    value: None,
-};
 
 /// What is known of a trait.
 #[derive(Drop)]
@@ -74,17 +44,27 @@ struct Heading {
 #[derive(Clone, Copy)]
 struct Use {
     word: Word,
-    arguments: usize,
+    count: usize,
 }
 
-/// What the names mean, and where they are used.
+/// What the names mean, and where they are used. A list with a place for each name goes no further than to the last one
+/// of which something stands there.
 #[derive(Drop)]
 pub(crate) struct Lexicon {
-    meanings: Vec<Meaning>,
+    arguments: Vec<Arguments>,
+    // The constructors of types, once they are used.
+    constructors: Vec<Option<usize>>,
+    // The types whose names are values, too.
+    units: Vec<bool>,
+    bounds: Vec<Option<usize>>,
+    functions: Vec<Option<usize>>,
+    // The item's parameters, and the types of its values.
+    parameters: Vec<Option<Parameter>>,
+    values: Vec<Option<usize>>,
     traits: Vec<Heading>,
     uses: Vec<Use>,
     // The words for values of types that are declared elsewhere.
-    units: Vec<Word>,
+    unit_words: Vec<Word>,
     // The names that mean parameters and values of the item.
     locals: Vec<usize>,
 }
@@ -97,54 +77,57 @@ impl Model for Lexicon {
 }
 
 impl Lexicon {
-    /// So many names, of which those of primitive types mean these.
-    pub(crate) fn new(alloc: Global, count: usize) -> Result<Lexicon, Stop> {
-        let mut lexicon = Lexicon {
-            meanings: vec![in alloc; NOTHING; count]?,
+    /// No name means anything but those of primitive types.
+    pub(crate) fn new(alloc: Global) -> Result<Lexicon, Stop> {
+        Ok(Lexicon {
+            arguments: vec![in alloc; Arguments::Declared(0); PRIMITIVES.len()]?,
+            constructors: Vec::new(alloc),
+            units: Vec::new(alloc),
+            bounds: Vec::new(alloc),
+            functions: Vec::new(alloc),
+            parameters: Vec::new(alloc),
+            values: Vec::new(alloc),
             traits: Vec::new(alloc),
             uses: Vec::new(alloc),
-            units: Vec::new(alloc),
+            unit_words: Vec::new(alloc),
             locals: Vec::new(alloc),
-        };
-        for name in 0..PRIMITIVES.len() {
-            lexicon.set(name, BUILT_IN);
-        }
-        Ok(lexicon)
+        })
     }
 
-    /// What the name means.
-    pub(crate) fn meaning(&self, name: usize) -> Meaning {
-        self.meanings.get(name).copied().unwrap_or(NOTHING)
+    /// The item's parameter of this name.
+    pub(crate) fn parameter(&self, name: usize) -> Option<Parameter> {
+        known(self.parameters.as_slice(), name, None)
     }
 
-    /// There is a name of this number, and there are those of smaller ones.
-    pub(crate) fn add_name(&mut self, name: usize) -> Result<(), Stop> {
-        for _ in self.meanings.len()..name.saturating_add(1) {
-            push(&mut self.meanings, NOTHING)?;
-        }
-        Ok(())
+    /// The type of the value of this name.
+    pub(crate) fn value(&self, name: usize) -> Option<usize> {
+        known(self.values.as_slice(), name, None)
     }
 
-    /// The name means this from now on.
-    pub(crate) fn set(&mut self, name: usize, meaning: Meaning) {
-        if let Some(known) = self.meanings.get_mut(name) {
-            *known = meaning;
-        }
+    /// The constructor of the type of this name, once it is used.
+    pub(crate) fn constructor(&self, name: usize) -> Option<usize> {
+        known(self.constructors.as_slice(), name, None)
+    }
+
+    /// The number of the trait of this name.
+    pub(crate) fn bound(&self, name: usize) -> Option<usize> {
+        known(self.bounds.as_slice(), name, None)
+    }
+
+    /// The number of the function of this name.
+    pub(crate) fn function(&self, name: usize) -> Option<usize> {
+        known(self.functions.as_slice(), name, None)
     }
 
     /// The name means this parameter until the item ends.
     pub(crate) fn set_parameter(&mut self, name: usize, parameter: Parameter) -> Result<(), Stop> {
-        let mut meaning = self.meaning(name);
-        meaning.parameter = Some(parameter);
-        self.set(name, meaning);
+        note(&mut self.parameters, name, None, Some(parameter))?;
         push(&mut self.locals, name)
     }
 
     /// The name means a value of this type until the item ends.
     pub(crate) fn set_value(&mut self, name: usize, number: usize) -> Result<(), Stop> {
-        let mut meaning = self.meaning(name);
-        meaning.value = Some(number);
-        self.set(name, meaning);
+        note(&mut self.values, name, None, Some(number))?;
         push(&mut self.locals, name)
     }
 
@@ -154,33 +137,25 @@ impl Lexicon {
             let Some(name) = self.locals.pop() else {
                 return;
             };
-            let mut meaning = self.meaning(name);
-            meaning.parameter = None;
-            meaning.value = None;
-            self.set(name, meaning);
+            forget(&mut self.parameters, name);
+            forget(&mut self.values, name);
         }
     }
 
     /// The word declares a type with so many parameters.
-    pub(crate) fn declare_type(&mut self, word: Word, arguments: usize) -> Result<(), Stop> {
-        let mut meaning = self.meaning(word.name);
-        if meaning.arguments.is_some() {
+    pub(crate) fn declare_type(&mut self, word: Word, count: usize) -> Result<(), Stop> {
+        if let Arguments::Declared(_) = self.arguments_of(word.name) {
             return Err(Stop::Refused(word.place, Problem::Twice));
         }
-        meaning.arguments = Some(arguments);
-        self.set(word.name, meaning);
-        Ok(())
+        self.set_arguments(word.name, Arguments::Declared(count))
     }
 
     /// The word declares the function of this number.
     pub(crate) fn declare_function(&mut self, word: Word, function: usize) -> Result<(), Stop> {
-        let mut meaning = self.meaning(word.name);
-        if meaning.function.is_some() {
+        if self.function(word.name).is_some() {
             return Err(Stop::Refused(word.place, Problem::Twice));
         }
-        meaning.function = Some(function);
-        self.set(word.name, meaning);
-        Ok(())
+        note(&mut self.functions, word.name, None, Some(function))
     }
 
     /// The word declares the trait of this number.
@@ -194,8 +169,7 @@ impl Lexicon {
 
     /// The number of the trait that the word names, which is the next one where it is named for the first time.
     pub(crate) fn trait_number(&mut self, alloc: Global, word: Word) -> Result<usize, Stop> {
-        let mut meaning = self.meaning(word.name);
-        if let Some(number) = meaning.bound {
+        if let Some(number) = self.bound(word.name) {
             return Ok(number);
         }
         let number = self.traits.len();
@@ -205,8 +179,7 @@ impl Lexicon {
             above: Vec::new(alloc),
         };
         push(&mut self.traits, heading)?;
-        meaning.bound = Some(number);
-        self.set(word.name, meaning);
+        note(&mut self.bounds, word.name, None, Some(number))?;
         Ok(number)
     }
 
@@ -230,31 +203,41 @@ impl Lexicon {
         }
     }
 
-    /// The word names a type that has so many arguments there. It may be declared later.
-    pub(crate) fn note_use(&mut self, word: Word, arguments: usize) -> Result<(), Stop> {
-        match self.meanings.get(word.name) {
-            Some(known) if known.arguments == Some(arguments) => Ok(()),
-            _ => push(&mut self.uses, Use { word, arguments }),
+    /// The word names a type that has so many arguments there. It may be declared later: of the uses before, one is kept
+    /// of those that are alike.
+    pub(crate) fn note_use(&mut self, word: Word, count: usize) -> Result<(), Stop> {
+        match self.arguments_of(word.name) {
+            Arguments::Used(known) | Arguments::Declared(known) if known == count => Ok(()),
+            Arguments::Unknown => {
+                self.set_arguments(word.name, Arguments::Used(count))?;
+                push(&mut self.uses, Use { word, count })
+            }
+            _ => push(&mut self.uses, Use { word, count }),
         }
+    }
+
+    // What is known of the arguments of the type of this name.
+    fn arguments_of(&self, name: usize) -> Arguments {
+        known(self.arguments.as_slice(), name, Arguments::Unknown)
+    }
+
+    fn set_arguments(&mut self, name: usize, arguments: Arguments) -> Result<(), Stop> {
+        note(&mut self.arguments, name, Arguments::Unknown, arguments)
     }
 
     /// The type of this name has this constructor.
-    pub(crate) fn set_constructor(&mut self, name: usize, constructor: usize) {
-        if let Some(known) = self.meanings.get_mut(name) {
-            known.constructor = Some(constructor);
-        }
+    pub(crate) fn set_constructor(&mut self, name: usize, constructor: usize) -> Result<(), Stop> {
+        note(&mut self.constructors, name, None, Some(constructor))
     }
 
     /// The name of the type is its value, too.
-    pub(crate) fn set_unit(&mut self, name: usize) {
-        let mut meaning = self.meaning(name);
-        meaning.is_unit = true;
-        self.set(name, meaning);
+    pub(crate) fn set_unit(&mut self, name: usize) -> Result<(), Stop> {
+        note(&mut self.units, name, false, true)
     }
 
     /// The word names the value of the type of this name.
     pub(crate) fn note_unit(&mut self, word: Word) -> Result<(), Stop> {
-        push(&mut self.units, word)
+        push(&mut self.unit_words, word)
     }
 
     /// Whether all that was named is declared, and types have as many arguments as parameters.
@@ -270,8 +253,8 @@ impl Lexicon {
     }
 
     fn check_units(&self) -> Result<(), Stop> {
-        for word in self.units.iter() {
-            if !self.meaning(word.name).is_unit {
+        for word in self.unit_words.iter() {
+            if !known(self.units.as_slice(), word.name, false) {
                 return Err(Stop::Refused(word.place, Problem::UnknownValue));
             }
         }
@@ -280,12 +263,12 @@ impl Lexicon {
 
     fn check_types(&self) -> Result<(), Stop> {
         for used in self.uses.iter() {
-            match self.meaning(used.word.name).arguments {
-                Some(count) if count == used.arguments => {}
-                Some(count) => {
+            match self.arguments_of(used.word.name) {
+                Arguments::Declared(count) if count == used.count => {}
+                Arguments::Declared(count) => {
                     return Err(Stop::Refused(used.word.place, Problem::Arguments(count)));
                 }
-                None => return Err(Stop::Refused(used.word.place, Problem::UnknownType)),
+                _ => return Err(Stop::Refused(used.word.place, Problem::UnknownType)),
             }
         }
         Ok(())
@@ -298,5 +281,28 @@ impl Lexicon {
             push(&mut names, heading.word.name)?;
         }
         Ok(names)
+    }
+}
+
+// What is known of the name.
+fn known<T: Copy>(list: &[T], name: usize, nothing: T) -> T {
+    list.get(name).copied().unwrap_or(nothing)
+}
+
+// This is known of the name from now on.
+fn note<T: Copy + Drop>(list: &mut Vec<T>, name: usize, nothing: T, value: T) -> Result<(), Stop> {
+    for _ in list.len()..name.saturating_add(1) {
+        push(list, nothing)?;
+    }
+    if let Some(known) = list.get_mut(name) {
+        *known = value;
+    }
+    Ok(())
+}
+
+// Nothing is known of the name from now on.
+fn forget<T: Copy + Drop>(list: &mut Vec<Option<T>>, name: usize) {
+    if let Some(known) = list.get_mut(name) {
+        *known = None;
     }
 }

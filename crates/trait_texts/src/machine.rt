@@ -5,7 +5,7 @@ use crate::lexicon::Word;
 use crate::names::{NEVER, Names};
 use crate::reader::Reader;
 use crate::refusal::{Problem, Stop};
-use crate::step::{Part, Step};
+use crate::step::{Part, Step, is_word};
 use crate::token::{Kind, Token, Words};
 use std::alloc::Global;
 
@@ -87,7 +87,7 @@ impl<'a> Machine<'a> {
     /// Reads a text to its end.
     pub(crate) fn read_text(&mut self, reader: &mut Reader, text: &'a [u8]) -> Result<(), Stop> {
         self.at.behind = Words::of(text);
-        self.read_word(reader)?;
+        self.read_word()?;
         self.read_part(reader, Part::Items)
     }
 
@@ -115,34 +115,34 @@ impl<'a> Machine<'a> {
     }
 
     // The step to take, which is left out then.
-    fn next_step(&mut self) -> Option<Step> {
+    fn next_step(&mut self) -> Option<&'static Step> {
         for _ in 0..u64::MAX {
             if let Some((step, steps)) = self.steps.split_first() {
                 self.steps = steps;
-                return Some(*step);
+                return Some(step);
             }
             self.steps = self.later.pop()?;
         }
         None
     }
 
-    fn take(&mut self, reader: &mut Reader, step: Step) -> Result<(), Stop> {
-        match step {
-            Step::Pass => self.pass(reader),
+    fn take(&mut self, reader: &mut Reader, step: &Step) -> Result<(), Stop> {
+        match *step {
+            Step::Pass => self.pass(),
             Step::Word(word) => {
-                let is_right = self.text() == word.as_bytes();
-                self.pass_if(reader, is_right, Problem::Expected(word))
+                let is_right = is_word(self.text(), word);
+                self.pass_if(is_right, Problem::Expected(word))
             }
             Step::Name => {
                 let is_right = matches!(self.at.token.kind, Kind::Name);
-                self.pass_if(reader, is_right, Problem::NoName)
+                self.pass_if(is_right, Problem::NoName)
             }
             Step::Number => {
                 let is_right = matches!(self.at.token.kind, Kind::Number);
-                self.pass_if(reader, is_right, Problem::NoNumber)
+                self.pass_if(is_right, Problem::NoNumber)
             }
             Step::ImplNumber => self.read_impl_number(reader),
-            Step::Limit => self.read_limit(reader),
+            Step::Limit => self.read_limit(),
             Step::Keep => self.keep(reader),
             Step::Mark => {
                 self.mark = self.at;
@@ -153,9 +153,9 @@ impl<'a> Machine<'a> {
                 Ok(())
             }
             Step::Go(part) => self.choose(part),
-            Step::If(word, _) if self.text() != word.as_bytes() => Ok(()),
+            Step::If(word, _) if !is_word(self.text(), word) => Ok(()),
             Step::If(_, part) => {
-                self.pass(reader)?;
+                self.pass()?;
                 self.choose(part)
             }
             Step::Make(making) => reader.make(making, self.last_word()),
@@ -165,28 +165,23 @@ impl<'a> Machine<'a> {
     }
 
     // Passes the word, if it is as it has to be.
-    fn pass_if(
-        &mut self,
-        reader: &mut Reader,
-        is_right: bool,
-        problem: Problem,
-    ) -> Result<(), Stop> {
+    fn pass_if(&mut self, is_right: bool, problem: Problem) -> Result<(), Stop> {
         if !is_right {
             return Err(self.refused(problem));
         }
-        self.pass(reader)
+        self.pass()
     }
 
-    fn pass(&mut self, reader: &mut Reader) -> Result<(), Stop> {
+    fn pass(&mut self) -> Result<(), Stop> {
         self.at.count = self.at.count.saturating_add(1);
         self.at.name = self.at.token.name;
-        self.read_word(reader)
+        self.read_word()
     }
 
-    // The next word stands here from now on. Its name may be new.
-    fn read_word(&mut self, reader: &mut Reader) -> Result<(), Stop> {
+    // The next word stands here from now on.
+    fn read_word(&mut self) -> Result<(), Stop> {
         self.at.token = self.at.behind.next_token(&mut self.names)?;
-        reader.lexicon.add_name(self.at.token.name)
+        Ok(())
     }
 
     // The text of the word that stands here.
@@ -210,7 +205,7 @@ impl<'a> Machine<'a> {
         }
     }
 
-    // Takes the steps of the part first.
+    // Takes the steps of the part first. Where they begin by passing the word, that is done at once.
     fn choose(&mut self, part: Part) -> Result<(), Stop> {
         let Token { text, kind, .. } = self.at.token;
         for (when, steps) in rows_of(part) {
@@ -219,6 +214,10 @@ impl<'a> Machine<'a> {
                     self.later.push(self.steps)?;
                 }
                 self.steps = *steps;
+                if let Some((Step::Pass, behind)) = steps.split_first() {
+                    self.steps = behind;
+                    return self.pass();
+                }
                 return Ok(());
             }
         }
@@ -236,13 +235,13 @@ impl<'a> Machine<'a> {
     fn read_impl_number(&mut self, reader: &mut Reader) -> Result<(), Stop> {
         let number = number_of(self.text());
         reader.named_impl = number.unwrap_or(0);
-        self.pass_if(reader, number.is_some(), Problem::NoNumber)
+        self.pass_if(number.is_some(), Problem::NoNumber)
     }
 
-    fn read_limit(&mut self, reader: &mut Reader) -> Result<(), Stop> {
+    fn read_limit(&mut self) -> Result<(), Stop> {
         let limit = limit_of(self.text());
         self.depth = limit.unwrap_or(DEPTH);
-        self.pass_if(reader, limit.is_some(), Problem::Limit)
+        self.pass_if(limit.is_some(), Problem::Limit)
     }
 }
 

@@ -74,7 +74,9 @@ const KEYWORDS: &[&[u8]] = &[
 #[derive(Drop)]
 pub(crate) struct Names<'a> {
     texts: Vec<&'a [u8]>,
-    numbers: HashMap<&'a [u8], usize>,
+    // The numbers of short names, by their bytes as one number, and of others.
+    short: HashMap<u64, usize>,
+    long: HashMap<&'a [u8], usize>,
 }
 
 impl<'a> Names<'a> {
@@ -82,7 +84,8 @@ impl<'a> Names<'a> {
     pub(crate) fn new(alloc: Global) -> Result<Names<'a>, Stop> {
         let mut names = Names {
             texts: Vec::new(alloc),
-            numbers: HashMap::new(alloc),
+            short: HashMap::new(alloc),
+            long: HashMap::new(alloc),
         };
         names.enter_all()?;
         Ok(names)
@@ -92,11 +95,6 @@ impl<'a> Names<'a> {
         self.enter(PRIMITIVES)?;
         self.enter(KEYWORDS)?;
         self.enter(&[b"Sized"])
-    }
-
-    /// How many names there are.
-    pub(crate) fn len(&self) -> usize {
-        self.texts.len()
     }
 
     /// The number of `Sized`.
@@ -114,7 +112,10 @@ impl<'a> Names<'a> {
     /// The number of a name, which is the next one where the name is new.
     pub(crate) fn number(&mut self, name: &'a [u8]) -> Result<usize, Stop> {
         let count = self.texts.len();
-        let number = *self.numbers.entry(name)?.or_insert(count);
+        let number = match packed(name) {
+            Some(bytes) => *self.short.entry(bytes)?.or_insert(count),
+            None => *self.long.entry(name)?.or_insert(count),
+        };
         if number == count {
             push(&mut self.texts, name)?;
         }
@@ -128,8 +129,21 @@ impl<'a> Names<'a> {
 
     /// The texts of all names, by their numbers.
     pub(crate) fn into_texts(self) -> Vec<&'a [u8]> {
-        let Names { texts, numbers } = self;
-        drop(numbers);
+        let Names { texts, short, long } = self;
+        drop(short);
+        drop(long);
         texts
     }
+}
+
+// The bytes of a name as one number, if there are up to eight. None of them is zero.
+fn packed(name: &[u8]) -> Option<u64> {
+    if name.len() > 8 {
+        return None;
+    }
+    let mut bytes = 0u64;
+    for byte in name {
+        bytes = bytes << 8 | *byte as u64;
+    }
+    Some(bytes)
 }

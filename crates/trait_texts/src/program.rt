@@ -86,9 +86,14 @@ impl Program {
     }
 
     /// The rule by fields for types of the shape `head`, which is no parameter.
-    pub(crate) fn set_fields(&mut self, draft: Draft, head: usize) -> Result<(), Stop> {
+    pub(crate) fn set_fields(
+        &mut self,
+        alloc: Global,
+        draft: &Draft,
+        head: usize,
+    ) -> Result<(), Stop> {
         if let Some(constructor) = draft.outermost(head) {
-            let rule = draft.rule(head)?;
+            let rule = draft.copied_rule(alloc, head)?;
             self.put_fields(constructor, rule);
         }
         Ok(())

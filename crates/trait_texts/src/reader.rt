@@ -20,7 +20,7 @@ use crate::step::{Doing, Making};
 use path_kinds::path::PathKind;
 use std::alloc::Global;
 use std::mem;
-use trait_rules::{Bound, Made};
+use trait_rules::{Bound, Made, Shape};
 
 /// What is known by the place that is reached.
 #[derive(Drop)]
@@ -42,13 +42,13 @@ pub(crate) struct Reader {
 }
 
 impl Reader {
-    /// So many names, of which nothing is known but what is built in.
-    pub(crate) fn new(alloc: Global, names: usize, options: Options) -> Result<Reader, Stop> {
+    /// Nothing is known but what is built in.
+    pub(crate) fn new(alloc: Global, options: Options) -> Result<Reader, Stop> {
         let word = Word { name: 0, place: 0 };
         Ok(Reader {
             alloc,
             options,
-            lexicon: Lexicon::new(alloc, names)?,
+            lexicon: Lexicon::new(alloc)?,
             forms: Forms::new(alloc),
             asking: Asking::new(alloc),
             program: Program::new(alloc),
@@ -130,7 +130,7 @@ impl Reader {
 
     // The type that a name has to which no arguments are given.
     fn put_plain(&mut self, word: Word) -> Result<(), Stop> {
-        if let Some(parameter) = self.lexicon.meaning(word.name).parameter {
+        if let Some(parameter) = self.lexicon.parameter(word.name) {
             return self.put_parameter(parameter);
         }
         let constructor = self.named(word, 0)?;
@@ -141,7 +141,7 @@ impl Reader {
     fn end_path(&mut self) -> Result<(), Stop> {
         let start = self.open.end()?;
         let count = self.open.parts_from(start.first).len();
-        match self.lexicon.meaning(start.word.name).parameter {
+        match self.lexicon.parameter(start.word.name) {
             Some(_) if count > 0 => Err(Stop::Refused(start.word.place, Problem::Arguments(0))),
             Some(parameter) => self.put_parameter(parameter),
             None => {
@@ -159,11 +159,11 @@ impl Reader {
 
     // The constructor of the type of this name.
     fn path(&mut self, name: usize) -> Result<usize, Stop> {
-        if let Some(constructor) = self.lexicon.meaning(name).constructor {
+        if let Some(constructor) = self.lexicon.constructor(name) {
             return Ok(constructor);
         }
-        let constructor = self.constructor(Form::Path(name))?;
-        self.lexicon.set_constructor(name, constructor);
+        let constructor = self.forms.path(self.alloc, &mut self.program, name)?;
+        self.lexicon.set_constructor(name, constructor)?;
         Ok(constructor)
     }
 
@@ -243,7 +243,7 @@ impl Reader {
 
     fn set_unit(&mut self) -> Result<(), Stop> {
         if self.item.parameters.is_empty() {
-            self.lexicon.set_unit(self.item.word.name);
+            return self.lexicon.set_unit(self.item.word.name);
         }
         Ok(())
     }
@@ -278,7 +278,7 @@ impl Reader {
     }
 
     fn add_parameter(&mut self, word: Word) -> Result<(), Stop> {
-        if self.lexicon.meaning(word.name).parameter.is_some() {
+        if self.lexicon.parameter(word.name).is_some() {
             return Err(Stop::Refused(word.place, Problem::Twice));
         }
         push(&mut self.item.parameters, word)?;
@@ -320,8 +320,8 @@ impl Reader {
         let count = self.item.parameters.len();
         self.lexicon.declare_type(word, count)?;
         let constructor = self.path(word.name)?;
-        let draft = self.take_draft();
-        finish_fields(&mut self.program, constructor, count, draft)
+        let draft = &mut self.item.draft;
+        finish_fields(self.alloc, &mut self.program, constructor, count, draft)
     }
 
     fn declare_trait(
@@ -387,7 +387,7 @@ impl Reader {
         if Names::is_keyword(name.name) {
             return Ok(());
         }
-        if self.lexicon.meaning(name.name).value.is_some() {
+        if self.lexicon.value(name.name).is_some() {
             return Err(Stop::Refused(name.place, Problem::Twice));
         }
         self.lexicon.set_value(name.name, shape)
@@ -411,8 +411,13 @@ impl Reader {
         Ok(types)
     }
 
-    // The type of this shape of the draft, in whose place is an empty one.
+    // The type of this shape of the draft, in whose place is an empty one. Most often there is no other shape.
     fn take_type(&mut self, shape: usize) -> Result<usize, Stop> {
+        if let (0, [Shape::Constructor(constructor)]) = (shape, self.item.draft.shapes()) {
+            let number = self.program.of_none(*constructor)?;
+            self.item.draft.clear();
+            return Ok(number);
+        }
         let types = self.take_types()?;
         type_at(types.as_slice(), shape)
     }
@@ -423,13 +428,14 @@ impl Reader {
             return Err(Stop::Refused(behind(word), Problem::NoTrait));
         }
         let subject = self.take_type(shape)?;
-        self.asking.ask(subject, self.open.bounds())?;
+        self.asking
+            .ask(&mut self.program, subject, self.open.bounds())?;
         self.open.forget_bounds();
         Ok(())
     }
 
     fn begin_call(&mut self, word: Word) -> Result<(), Stop> {
-        if self.lexicon.meaning(word.name).value.is_some() {
+        if self.lexicon.value(word.name).is_some() {
             return Err(Stop::Refused(word.place, Problem::Value));
         }
         self.open.begin(word)
@@ -437,7 +443,7 @@ impl Reader {
 
     // A value of the type `!` may be taken as one of another type, by rules that are not followed here.
     fn give(&mut self, word: Word) -> Result<(), Stop> {
-        let number = match self.lexicon.meaning(word.name).value {
+        let number = match self.lexicon.value(word.name) {
             Some(number) => number,
             None => self.unit_type(word)?,
         };

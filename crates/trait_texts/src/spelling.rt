@@ -3,7 +3,7 @@
 use crate::refusal::write_number;
 use path_kinds::memory::NoMemory;
 use std::alloc::Global;
-use trait_rules::{Key, Made, Numbered, Terms};
+use trait_rules::{Made, Numbered, Terms};
 
 /// What has parameters that are types of their own.
 #[derive(Clone, Copy, PartialEq, Eq, Hash, Drop)]
@@ -36,19 +36,13 @@ pub(crate) enum Form {
     Constant(Owner, usize),
 }
 
-impl Key for Form {
-    ghost use Rattle.std.proofs.Common.{rules};
-
-    ghost same_key = { Prim.search rules };
-}
-
 /// The names of types and traits.
 #[derive(Drop)]
 pub struct Spelling<'a> {
     /// The names by their numbers.
     pub(crate) names: Vec<&'a [u8]>,
     /// The forms of the constructors.
-    pub(crate) forms: Numbered<Form>,
+    pub(crate) forms: Vec<Form>,
     /// Sets of traits: a trait, or a set with one more.
     pub(crate) sets: Numbered<Made>,
     /// The names of the traits.
@@ -225,7 +219,7 @@ impl<'a> Spelling<'a> {
     // The form of a type without arguments.
     fn form_of(&self, terms: &Terms, number: usize) -> Option<Form> {
         match terms.get(number) {
-            Some(Made::Constructor(constructor)) => self.forms.get(constructor),
+            Some(Made::Constructor(constructor)) => self.forms.get(constructor).copied(),
             _ => None,
         }
     }

@@ -202,13 +202,21 @@ impl When {
     /// Whether a word of this text and kind is one before which the part may be that.
     pub(crate) fn fits(self, text: &[u8], kind: Kind) -> bool {
         match self {
-            When::At(word) => text == word.as_bytes(),
+            When::At(word) => is_word(text, word),
             When::AtName => matches!(kind, Kind::Name),
             When::AtLifetime => matches!(kind, Kind::Lifetime),
             When::AtNumber => matches!(kind, Kind::Number),
             When::AtEnd => matches!(kind, Kind::End),
             When::Else => true,
         }
+    }
+}
+
+/// Whether the text is this word. Mostly the first bytes differ.
+pub(crate) fn is_word(text: &[u8], word: &'static str) -> bool {
+    match (text, word.as_bytes()) {
+        ([first, behind @ ..], [other, others @ ..]) => *first == *other && behind == others,
+        _ => false,
     }
 }
 

@@ -94,7 +94,7 @@ impl Reader {
         let subject = type_at(types.as_slice(), head)?;
         let above = self.lexicon.above(self.item.bound);
         self.definitions = self.definitions.saturating_add(above.len());
-        self.asking.ask(subject, above)?;
+        self.asking.ask(&mut self.program, subject, above)?;
         self.item.head = self.take_draft();
         self.item.own = Some(head);
         Ok(())
@@ -102,7 +102,7 @@ impl Reader {
 
     /// The parameters that have a size implement `Sized`, if a trait has that name.
     pub(super) fn hold_sized(&mut self) -> Result<(), Stop> {
-        match self.lexicon.meaning(Names::sized()).bound {
+        match self.lexicon.bound(Names::sized()) {
             Some(bound) => self.forms.hold_sized(self.alloc, bound),
             None => Ok(()),
         }
