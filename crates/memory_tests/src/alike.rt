@@ -1,4 +1,4 @@
-//! Names that a table of names finds in one and the same place, as somebody may choose them who knows how names are hashed.
+//! Names that a map of the library finds in one and the same place, as somebody may choose them who knows how it hashes.
 
 use std::hash::{FoldHasher, Hasher};
 use std::io;
@@ -29,7 +29,7 @@ pub fn write_alike<W: Write>(out: &mut W, count: u64) -> io::Result<()> {
     Ok(())
 }
 
-/// By this hash a table of names looks for the name.
+/// By this hash a map looks for the name.
 fn hash_of(name: &[u8]) -> u64 {
     let mut hasher = FoldHasher::default();
     hasher.write(name);
