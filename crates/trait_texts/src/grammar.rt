@@ -21,6 +21,7 @@ const ITEMS: &[Row] = &[
     (At("unsafe"), &[Pass, Go(Unsafe), Go(Items)]),
     (At("fn"), &[Pass, Go(AfterFn), Go(Items)]),
     (At("impl"), &[Pass, Go(AfterImpl), Go(Items)]),
+    (At("use"), &[Pass, Go(Used), Word(";"), Go(Items)]),
     (At("("), QUESTION),
     (At("["), QUESTION),
     (At("&"), QUESTION),
@@ -70,8 +71,25 @@ const PUBLIC_ITEM: &[Row] = &[
     (At("unsafe"), &[Pass, Go(Unsafe)]),
     (At("auto"), &[Pass, Go(AutoTrait)]),
     (At("fn"), &[Pass, Go(Function)]),
+    (At("use"), &[Pass, Go(Used), Word(";")]),
     (Else, &[Go(Item)]),
 ];
+
+// What is brought in from elsewhere has to be declared all the same, under the same name.
+const USED: &[Row] = &[
+    (At("{"), &[Pass, Go(UsedList)]),
+    (At("*"), &[Pass]),
+    (At("crate"), &[Pass, Go(UsedNext)]),
+    (At("self"), &[Pass, Go(UsedNext)]),
+    (At("super"), &[Pass, Go(UsedNext)]),
+    (Else, &[Name, Go(UsedNext)]),
+];
+
+const USED_NEXT: &[Row] = &[(At("::"), &[Pass, Go(Used)]), (Else, &[])];
+
+const USED_LIST: &[Row] = &[(At("}"), &[Pass]), (Else, &[Go(Used), Go(UsedListNext)])];
+
+const USED_LIST_NEXT: &[Row] = &[(At(","), &[Pass, Go(UsedList)]), (Else, &[Word("}")])];
 
 const UNSAFE: &[Row] = &[
     (At("auto"), &[Pass, Go(AutoTrait)]),
@@ -123,20 +141,30 @@ const ITEM: &[Row] = &[
 
 // Attributes. Behind one that marks a trait as coinductive, nothing may follow but others, and a trait.
 
+// How lints are told says nothing here.
+const LEVEL: &[Step] = &[Pass, Word("("), Go(Lints), Word("]")];
+
 const ATTRIBUTE: &[Row] = &[
     (At("!"), &[Pass, Word("["), Go(InnerAttribute)]),
     (Else, &[Word("["), Go(OuterAttribute)]),
 ];
 
 const INNER_ATTRIBUTE: &[Row] = &[
-    (At("allow"), &[Pass, Word("("), Go(Lints), Word("]")]),
+    (At("allow"), LEVEL),
+    (At("warn"), LEVEL),
+    (At("deny"), LEVEL),
+    (At("forbid"), LEVEL),
     (At("feature"), &[Pass, Word("("), Go(Lints), Word("]")]),
     (At("recursion_limit"), &[Pass, Word("="), Limit, Word("]")]),
     (Else, &[Refuse(NoAttribute)]),
 ];
 
 const OUTER_ATTRIBUTE: &[Row] = &[
-    (At("allow"), &[Pass, Word("("), Go(Lints), Word("]")]),
+    (At("allow"), LEVEL),
+    (At("warn"), LEVEL),
+    (At("deny"), LEVEL),
+    (At("forbid"), LEVEL),
+    (At("marker"), &[Pass, Word("]")]),
     (At("rustc_coinductive"), &[Pass, Word("]"), Go(Marked)]),
     (Else, &[Refuse(NoAttribute)]),
 ];
@@ -153,7 +181,11 @@ const MARKED_ATTRIBUTE: &[Row] = &[
 ];
 
 const MARKED_OUTER_ATTRIBUTE: &[Row] = &[
-    (At("allow"), &[Pass, Word("("), Go(Lints), Word("]")]),
+    (At("allow"), LEVEL),
+    (At("warn"), LEVEL),
+    (At("deny"), LEVEL),
+    (At("forbid"), LEVEL),
+    (At("marker"), &[Pass, Word("]")]),
     (At("rustc_coinductive"), &[Pass, Word("]")]),
     (Else, &[Refuse(NoAttribute)]),
 ];
@@ -476,6 +508,10 @@ fn text_rows(part: Part) -> &'static [Row] {
         Part::AfterImpl => AFTER_IMPL,
         Part::Public => PUBLIC,
         Part::PublicItem => PUBLIC_ITEM,
+        Part::Used => USED,
+        Part::UsedNext => USED_NEXT,
+        Part::UsedList => USED_LIST,
+        Part::UsedListNext => USED_LIST_NEXT,
         Part::Unsafe => UNSAFE,
         Part::Item => ITEM,
         Part::Attribute => ATTRIBUTE,
