@@ -41,8 +41,8 @@ invariant_of-self-2 c =
       )
     ] in
     let pushed = c.push_reserved.ensures.items ∙ ap (λ xs. xs ++ c.new-name.result ∷ []) ready.2 in
-    found_more inside.heads inside.links.items c.link.new.links.items keys c.push_reserved.new.self.items c.new-name.result
-    c.len-number.result (subst (AreLinked inside.heads inside.links.items keys) (sym is) ready.0)
+    found_more inside.heads inside.links.items c.link.new.links.items keys c.push_reserved.new.self.items
+    c.new-name.result c.len-number.result (subst (AreLinked inside.heads inside.links.items keys) (sym is) ready.0)
     c.self.invariant.distinct is (omega (arith, c.len-number.ensures, ready.1)) pushed
     (λ n at. let there = (c.in_default.ensures n).1 (rw (← c.self.view_is, ← c.new-name.ensures) at) in cc)
     c.link.ensures.room
@@ -53,7 +53,8 @@ pub returns-clause-number : goal.returns-clause-number
 returns-clause-number c =
     let same : c.if-number-self.self-inside.names.items ≡ c.self.inside.names.items =
     elim c.if-number-self.branch [
-      | then-number-self+in_ok-self-inside w ↦ ap (λ inside. inside.names.items) w.self-inside-is ∙ c.in_ok-reserve.ensures.items
+      | then-number-self+in_ok-self-inside w ↦
+        ap (λ inside. inside.names.items) w.self-inside-is ∙ c.in_ok-reserve.ensures.items
       | else-number-self w ↦ ap (λ inside. inside.names.items) w.self-inside-is ∙ c.in_ok-reserve.ensures.items
     ] in
     let items = c.push_reserved.new.self.items in

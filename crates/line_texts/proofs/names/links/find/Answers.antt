@@ -25,7 +25,8 @@ pub returns-then-eq : goal.returns-then-eq
 returns-then-eq c = λ n. only_place c.args.names.now (text_of c.args.name.now) (c.saturating_sub-number.result / 2) n
     c.requires.found.distinct (text_at c.args.names.now (c.saturating_sub-number.result / 2) c.in_ok-known.known.now
     (text_of c.args.name.now) (slice_get_read c.args.names.now (length c.args.names.now)
-    (c.saturating_sub-number.result / 2) c.in_ok-known.known.now refl c.in_ok-known.ensures.lookup.3.0 c.in_ok-known.ensures.lookup.1) (search rules))
+    (c.saturating_sub-number.result / 2) c.in_ok-known.known.now refl c.in_ok-known.ensures.lookup.3.0
+    c.in_ok-known.ensures.lookup.1) (search rules))
 
 pub loop-slot-preserved : goal.loop-slot-preserved
 loop-slot-preserved c =
