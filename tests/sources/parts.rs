@@ -7,6 +7,7 @@
 //! | `reuse`, `rebasing` | the provisional cache: which entries are used, cleared and rebased |
 //! | `stored`, `nodes` | the global cache: stored results, nodes, and graphs that are handed out |
 //! | `components` | strongly connected components |
+//! | `names` | names that hash alike, with memory refused |
 //! | `declarations` | texts that declare types and traits, and types as texts |
 //! | `random` | numbers that look random |
 //! | `faults` | the texts of faults |
@@ -21,6 +22,7 @@ mod depths;
 mod entries;
 mod faults;
 mod heads;
+mod names;
 mod nested_goals;
 mod nodes;
 mod paths;
