@@ -1,5 +1,6 @@
 -- How names are found by their links.
-use Rattle.std.proofs.Common.{◌≡◌, ℕ, zero, suc, ◌+◌, ◌-◌, ◌*◌, ◌/◌, ◌%◌, ◌<◌, ◌≤◌, ◌^◌, true, false, List, [], ◌∷◌, ◌++◌}
+use Rattle.std.proofs.Common.{◌≡◌, ℕ, zero, suc, ◌+◌, ◌-◌, ◌*◌, ◌/◌, ◌%◌, ◌<◌, ◌≤◌, ◌^◌, true, false}
+use Rattle.std.proofs.Common.{List, [], ◌∷◌, ◌++◌}
 use Rattle.std.proofs.Common.{length, map, Some, None, refl, ap, sym, ◌∙◌, subst, arith, inl, inr, ◌⊎◌, slice_set}
 use Rattle.std.specs.Prelude.{slice_get, ◌↔◌}
 use Rattle.std.specs.List.{IsDistinct}
@@ -106,7 +107,8 @@ ahead_on heads links keys text slot rest number known ahead is stands other = λ
     let same : n ≡ number = omega (arith, there, is) in
     let key = key_at keys n text at in
     let one : known ≡ key.0 = some_same known key.0 (sym stands ∙ (ap (slice_get keys) (sym same) ∙ key.1)) in
-    let equal : bytes_eq (text_of known) text ≡ true = (bytes_eq-Decides (text_of known) text).1 (ap text_of one ∙ key.2) in
+    let equal : bytes_eq (text_of known) text ≡ true =
+    (bytes_eq-Decides (text_of known) text).1 (ap text_of one ∙ key.2) in
     cc)
 
 pub not_ahead : (heads : ℕ) (links : List ℕ) (keys : List Name) (text : List ℕ) (slot rest link : ℕ)

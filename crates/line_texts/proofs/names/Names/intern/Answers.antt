@@ -54,7 +54,7 @@ returns-clause-number c =
     let same : c.if-number-self.self-inside.names.items ≡ c.self.inside.names.items =
     elim c.if-number-self.branch [
       | then-number-self+in_ok-self-inside w ↦
-        ap (λ inside. inside.names.items) w.self-inside-is ∙ c.in_ok-reserve.ensures.items
+          ap (λ inside. inside.names.items) w.self-inside-is ∙ c.in_ok-reserve.ensures.items
       | else-number-self w ↦ ap (λ inside. inside.names.items) w.self-inside-is ∙ c.in_ok-reserve.ensures.items
     ] in
     let items = c.push_reserved.new.self.items in
