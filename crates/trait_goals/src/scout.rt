@@ -12,6 +12,9 @@ use std::alloc::Global;
 /// How many steps are made at most to find a goal that is not known.
 const STEPS: usize = 1 << 24;
 
+/// So many goals beside those that there are may come up before it is looked where a search would go.
+const FEW: usize = 16;
+
 /// Beside what was cut off, the depth is divided by this.
 const PART: usize = 4;
 
@@ -51,6 +54,39 @@ struct Scout {
 
 /// Makes goals known that a search comes to from these at this depth, until there are so many goals.
 pub fn make_known(
+    alloc: Global,
+    goals: &mut Goals,
+    asked: &[usize],
+    depth: usize,
+    most: usize,
+) -> Result<(), NoMemory>
+    ensures { Extends goals.old goals.new }
+{
+    let few = goals.len().saturating_add(FEW);
+    expand_in_turn(alloc, goals, few.min(most))?;
+    if goals.first_unknown(0).is_none() {
+        return Ok(());
+    }
+    go_through(alloc, goals, asked, depth, most)
+}
+
+// Makes goals known by their numbers, until there are so many: where the types of a text are asked for, that is mostly all of them.
+fn expand_in_turn(alloc: Global, goals: &mut Goals, most: usize) -> Result<(), NoMemory>
+    ensures { Extends goals.old goals.new }
+{
+    for goal in 0..most {
+        if goal >= goals.len() || goals.len() >= most {
+            return Ok(());
+        }
+        if goals.candidates(goal).is_none() {
+            goals.expand(alloc, goal)?;
+        }
+    }
+    Ok(())
+}
+
+// Goes through goals from these on, and makes them known.
+fn go_through(
     alloc: Global,
     goals: &mut Goals,
     asked: &[usize],

@@ -1,5 +1,5 @@
 use Rattle.trait_goals.proofs.Extending.{extends_same, extends_then}
-use Rattle.trait_goals.proofs.scout.make_known.Goals as goal
+use Rattle.trait_goals.proofs.scout.go_through.Goals as goal
 
 pub loop-init : goal.loop-init
 loop-init c = extends_same c.args.goals.now
