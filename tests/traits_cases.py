@@ -53,6 +53,11 @@ ANSWERED = [
     ("struct A; trait B {} impl B for A {} A: B?", "A: B yes\n"),
     ("A: B? trait B {} struct A;", "A: B no\n"),
     (
+        "use std::{rc::{self, Rc}, sync::*,}; pub use crate::a; pub(crate) use super::b::{}; use self::c; struct A; "
+        "#[marker] #[warn(a::b)] trait B {} #![deny(c)] #[forbid(d, e,)] impl B for A {} impl B for A where u8: B {} A: B?",
+        "A: B yes\n",
+    ),
+    (
         "auto trait B {} bool: B? char: B? str: B? !: B? (): B?",
         "bool: B yes\nchar: B yes\nstr: B yes\n!: B yes\n(): B yes\n",
     ),
@@ -273,7 +278,12 @@ DEFINITIONS = [
 
 # What is refused: the text, the line that has to be named, and words of which one has to be.
 REFUSED = [
-    ("struct A;\nuse std::rc::Rc;", 2, "use"),
+    ("struct A;\nuse std::rc::Rc as R;", 2, "as"),
+    ("use std::{rc::Rc\nsync::Arc};", 2, "sync"),
+    ("use std::\n;", 2, ";"),
+    ("use ::std::rc::Rc;", 1, "::"),
+    ("fn f() {\n use std::rc::Rc;\n}", 2, "use"),
+    ("#[marker(1)]\ntrait A {}", 1, "("),
     ("mod m {}", 1, "mod"),
     ("struct A;\n\nconst N: i32 = 3;", 3, "const"),
     ("static N: i32 = 3;", 1, "static"),

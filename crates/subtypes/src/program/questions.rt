@@ -17,7 +17,7 @@ use search_parts::context::Fault;
 use std::alloc::Global;
 use std::io::Write;
 use structural_types::Subtyping;
-use type_order::Pair;
+use type_order::{Pair, Types};
 use type_texts::TypeTable;
 
 /// A write of its own for each line would take longer than a question that the cache answers, so this many bytes

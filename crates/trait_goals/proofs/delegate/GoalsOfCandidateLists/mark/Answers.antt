@@ -12,7 +12,7 @@ returns-in_err-_candidate-in-Some-clause-within g c =
 pub returns-in_ok-_candidate-in-Some-clause-value : goal.returns-in_ok-_candidate-in-Some-clause-value
 returns-in_ok-_candidate-in-Some-clause-value g c =
     let e : candidates_at (g.L.Lends.lent_by c.args.self.lender) c.args.goal ≡ Some c.in-Some.known.now =
-    let h = c.in-Some.ensures in let t = c.goals-lent.ensures in search rules in
+    let h = c.in-Some.ensures in let t = c.lent-goals.ensures in search rules in
     let found = c.in_ok-_candidate-in-Some.ensures.lookup in
     let candidate = c.in_ok-_candidate-in-Some._candidate.now in
     let at = subst (λ all. slice_get all c.args.candidate ≡ Some candidate) c.deref.ensures
