@@ -1,0 +1,25 @@
+use Rattle.type_runs.proofs.Stops.{done_by_status, refused_by_status, status_in_range, stopped_by_status, told_by_status}
+use Rattle.type_runs.proofs.program.run.Goals as goal
+
+pub returns-clause-status : goal.returns-clause-status
+returns-clause-status g c = status_in_range c.answer_input-came.result _ c.status_told.ensures
+
+pub returns-clause-told : goal.returns-clause-told
+returns-clause-told g c =
+    told_by_status _ c.answer_input-came.result _ c.status_told.ensures c.answer_input-came.ensures.told
+
+pub returns-clause-flushed : goal.returns-clause-flushed
+returns-clause-flushed g c =
+    done_by_status _ c.answer_input-came.result _ c.status_told.ensures c.answer_input-came.ensures.flushed
+
+pub returns-clause-refused : goal.returns-clause-refused
+returns-clause-refused g c =
+    refused_by_status _ c.answer_input-came.result _ c.status_told.ensures c.answer_input-came.ensures.refused
+
+pub returns-clause-nothing_written : goal.returns-clause-nothing_written
+returns-clause-nothing_written g c =
+    refused_by_status _ c.answer_input-came.result _ c.status_told.ensures c.answer_input-came.ensures.nothing_written
+
+pub returns-clause-beginning : goal.returns-clause-beginning
+returns-clause-beginning g c =
+    stopped_by_status _ c.answer_input-came.result _ c.status_told.ensures c.answer_input-came.ensures.beginning
