@@ -8,7 +8,8 @@ mod questions;
 mod shown;
 
 use line_texts::{Flush, read_input};
-use questions::{Checks, answer_questions};
+pub use questions::Checks;
+use questions::answer_questions;
 use rule_tables::delegate::Table;
 use rule_tables::{Goal, Outcome, Rules, Stop, TableDelegate, status_told};
 use search_parts::context::{Cx, Delegate};

@@ -30,9 +30,10 @@ const ROOM: usize = 8192;
 
 /// What is checked of the answers.
 #[derive(Clone, Copy)]
-pub(super) enum Checks {
-    /// The graph of each definite one.
+pub enum Checks {
+    /// The graph of each yes and no, as `run` does.
     EachGraph,
+    /// No graph, as with `answer`.
     Nothing,
 }
 
