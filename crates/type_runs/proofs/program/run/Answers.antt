@@ -1,4 +1,5 @@
-use Rattle.type_runs.proofs.Stops.{done_by_status, refused_by_status, status_in_range, stopped_by_status, told_by_status}
+use Rattle.type_runs.proofs.Stops.{done_by_status, refused_by_status, status_in_range, stopped_by_status}
+use Rattle.type_runs.proofs.Stops.{told_by_status}
 use Rattle.type_runs.proofs.program.run.Goals as goal
 
 pub returns-clause-status : goal.returns-clause-status

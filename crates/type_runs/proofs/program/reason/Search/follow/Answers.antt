@@ -3,7 +3,8 @@ use Rattle.type_order.specs.Rule.{pairs_of}
 use Rattle.type_texts.specs.Reasons.{IsStep}
 use Rattle.structural_types.specs.Asked.{declared_in}
 use Rattle.type_runs.specs.Search.{AreCovered, GoesOn, IsSearch, types_in}
-use Rattle.type_runs.proofs.Searching.{all_asked, at_still, goes_on_further, IsAmongFirst, no_more_asked, one_more_asked}
+use Rattle.type_runs.proofs.Searching.{all_asked, at_still, goes_on_further, IsAmongFirst}
+use Rattle.type_runs.proofs.Searching.{no_more_asked, one_more_asked}
 use Rattle.type_runs.proofs.program.reason.Search.follow.Goals as goal
 use Rattle.type_runs.proofs.program.reason.Search.follow.Goals.{in-Some+in_ok-look_at, in_default}
 
