@@ -14,7 +14,8 @@ impl Goal {
     ghost use Rattle.std.specs.Prelude.{◌≡◌};
     ghost use Rattle.rule_tables.specs.Rules.{number_of};
 
-    pub(crate) fn number(self) -> u32
+    /// The number of its name.
+    pub fn number(self) -> u32
         ensures { result ≡ number_of self }
     {
         self.0
@@ -55,9 +56,9 @@ pub struct Rules {
 }
 
 impl Rules {
-    ghost use Rattle.std.specs.Prelude.{◌≡◌, ◌↔◌, Some};
+    ghost use Rattle.std.specs.Prelude.{◌≡◌, ◌<◌, ◌↔◌, Some, IfSome, IsSome, length};
     ghost use Rattle.std.specs.Option.{option_copied};
-    ghost use Rattle.rule_tables.specs.Rules.{name_of, candidates_of, questions_of};
+    ghost use Rattle.rule_tables.specs.Rules.{name_of, names_of, number_of, candidates_of, questions_of};
 
     /// A table of these parts.
     pub(crate) fn new(
@@ -91,6 +92,25 @@ impl Rules {
     {
         let number = self.names.number(name)?;
         Some(Goal(number as u32))
+    }
+
+    /// How many goals there are.
+    pub fn count(&self) -> usize
+        ensures { result ≡ length (names_of self.now) }
+    {
+        self.names.count()
+    }
+
+    /// The goal with this number. Numbers begin with 0.
+    pub fn goal_at(&self, number: usize) -> Option<Goal>
+        ensures some { IsSome result ↔ (number < length (names_of self.now)) }
+        ensures number { IfSome result (λ goal. number_of goal ≡ number) }
+    {
+        if number < self.names.count() {
+            Some(Goal(number as u32))
+        } else {
+            None
+        }
     }
 
     /// The goal's name. A goal of another table may have none.
