@@ -9,6 +9,7 @@
 //! | `components` | strongly connected components |
 //! | `names` | names that hash alike, with memory refused |
 //! | `declarations` | texts that declare types and traits, and types as texts |
+//! | `rows` | rules as rows: those of a text's table, and rows that are not in order |
 //! | `random` | numbers that look random |
 //! | `faults` | the texts of faults |
 //!
@@ -30,6 +31,7 @@ mod random;
 mod rebasing;
 mod results;
 mod reuse;
+mod rows;
 mod stack;
 mod stored;
 mod storing;

@@ -6,6 +6,7 @@
 //! | `validation` | stored results that are validated |
 //! | `frames` | frames that are refused memory |
 //! | `lists` | a long list of queries with faults among them |
+//! | `sessions` | rules in arrays, graphs as words, and goals that are wanted |
 //! | `uses` | games, services, blocks that a write may reach, shapes, and subtypes |
 //!
 //! `asking` asks goals on a graph of their own, `stored` tells what is stored of a table's goals, and `handed_out` has the graphs that are handed out for them, and the
@@ -16,6 +17,7 @@ mod checker;
 mod frames;
 mod handed_out;
 mod lists;
+mod sessions;
 mod stored;
 mod uses;
 mod validation;

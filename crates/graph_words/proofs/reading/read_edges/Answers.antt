@@ -1,0 +1,20 @@
+use Rattle.std.proofs.Common.{◌∷◌, arith}
+use Rattle.graph_words.proofs.Lists.{length-pushed, read_more}
+use Rattle.graph_words.proofs.Readback.{counted_left, edge_parts}
+use Rattle.graph_words.proofs.Stops.{stops_before}
+use Rattle.graph_words.proofs.reading.read_edges.Goals as goal
+use Rattle.graph_words.specs.Words.{edge_words}
+
+pub loop-preserved : goal.loop-preserved
+loop-preserved c = record {
+  spelled = read_more edge_words (λ words. c.in_ok-count.count ∷ words) c.loop.edges.items _ _ _ _ _
+      c.loop.invariant.spelled
+      c.in_ok-edge.ensures.read c.in_ok-push.ensures.items;
+  many = length-pushed c.loop.edges.items _ _ _ c.in_ok-push.ensures.items c.loop.invariant.many;
+}
+
+pub returns-in_err-edge-clause-refused : goal.returns-in_err-edge-clause-refused
+returns-in_err-edge-clause-refused c =
+    stops_before _ _ _ _ (λ all. counted_left edge_words edge_parts _ c.loop.edges.items _ _
+    c.loop.invariant.spelled (omega (arith, c.loop.invariant.many, c.loop-test.true)) all)
+    c.from_residual-in_err-edge.ensures.1 c.in_err-edge.ensures.refused

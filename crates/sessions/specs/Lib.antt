@@ -1,0 +1,5 @@
+pub mod Below
+pub mod Rules
+pub mod Shown
+pub mod Questions
+pub mod Known

@@ -1,0 +1,169 @@
+//! Sessions: rules in arrays are asked one by one, and their graphs are handed out as words and checked.
+
+use rule_arrays::{Arrays, CandidateRow, GoalRow, LendsArrays, NOT_KNOWN, QuestionRow};
+use search_context::context::{NodeId, Verdict};
+use sessions::{Asked, Outcome, Session};
+use std::alloc::Global;
+use std::process::Abort;
+use std::test::Fail;
+
+/// More than any of these goals needs.
+const DEPTH: usize = 100;
+
+/// Goal 0 asks 1 by an inductive step, and 1 asks 0 by a coinductive one. Goal 2 asks itself by an inductive step. Goal 3 asks 4,
+/// of which nothing is known, as of 5, which nothing asks. Goal 6 asks nothing.
+const GOALS: &[GoalRow] = &[
+    GoalRow { first: 0, count: 1 },
+    GoalRow { first: 1, count: 1 },
+    GoalRow { first: 2, count: 1 },
+    GoalRow { first: 3, count: 1 },
+    GoalRow {
+        first: 9,
+        count: NOT_KNOWN,
+    },
+    GoalRow {
+        first: 9,
+        count: NOT_KNOWN,
+    },
+    GoalRow { first: 4, count: 1 },
+];
+
+const CANDIDATES: &[CandidateRow] = &[
+    CandidateRow {
+        first: 0,
+        count: 1,
+        is_marked: 0,
+    },
+    CandidateRow {
+        first: 1,
+        count: 1,
+        is_marked: 0,
+    },
+    CandidateRow {
+        first: 2,
+        count: 1,
+        is_marked: 0,
+    },
+    CandidateRow {
+        first: 3,
+        count: 1,
+        is_marked: 0,
+    },
+    CandidateRow {
+        first: 4,
+        count: 0,
+        is_marked: 0,
+    },
+];
+
+const QUESTIONS: &[QuestionRow] = &[
+    QuestionRow { kind: 0, goal: 1 },
+    QuestionRow { kind: 2, goal: 0 },
+    QuestionRow { kind: 0, goal: 2 },
+    QuestionRow { kind: 0, goal: 4 },
+];
+
+const ARRAYS: Arrays<'static> = Arrays {
+    goals: GOALS,
+    candidates: CANDIDATES,
+    questions: QUESTIONS,
+};
+
+/// The graph of goal 0.
+const WORDS: &[u64] = &[
+    0, 0, 4, 5, 4, 0, 4, 1, 0, 1, // it rests on node 1, by an inductive step
+    1, 0, 4, 5, 4, 0, 4, 1, 2, 0, // and that on node 0, by a coinductive one
+];
+
+#[test]
+fn answers_have_their_graphs(rt: HostRuntime) -> Result<(), Fail> {
+    have_their_graphs::<Arrays<'_>, HostRuntime>(&rt, rt.alloc(), ARRAYS)
+}
+
+fn have_their_graphs<L: LendsArrays, R: Abort>(
+    rt: &R,
+    alloc: Global,
+    lender: L,
+) -> Result<(), Fail> {
+    let mut session = Session::new(alloc, lender);
+    let yes = session.ask(DEPTH, 0)?;
+    assert!(rt; yes.outcome == Outcome::Yes && yes.started == 2 && !yes.limits_met);
+    let words = words_of(&session, yes)?;
+    assert!(rt; words.as_slice() == WORDS);
+    assert!(rt; session.check(0, Verdict::Yes, WORDS)?);
+    assert!(rt;
+        !session.check(0, Verdict::No, WORDS)? && !session.check(0, Verdict::Neither, WORDS)?
+    );
+    assert!(rt; !session.check(1, Verdict::Yes, WORDS)?);
+
+    let no = session.ask(DEPTH, 2)?;
+    assert!(rt; no.outcome == Outcome::No);
+    let words = words_of(&session, no)?;
+    assert!(rt; session.check(2, Verdict::No, words.as_slice())?);
+    assert!(rt; !session.check(2, Verdict::Yes, words.as_slice())?);
+
+    // The first one is still there, and costs nothing.
+    let again = session.ask(DEPTH, 0)?;
+    assert!(rt; again.node == yes.node && again.started == 0);
+    assert!(rt; words_of(&session, again)?.as_slice() == WORDS);
+    assert!(rt; session.graph_words(NodeId(99))?.is_none());
+    assert!(rt; session.held_nodes() == 3 && session.last_fault().is_none());
+    Ok(())
+}
+
+fn words_of<L: LendsArrays>(session: &Session<L>, asked: Asked) -> Result<Vec<u64>, Fail> {
+    let Some(node) = asked.node else {
+        return Err("it has no node".into());
+    };
+    match session.graph_words(node)? {
+        Some(words) => Ok(words),
+        None => Err("it has no graph".into()),
+    }
+}
+
+#[test]
+fn changed_words_are_refused(rt: HostRuntime) -> Result<(), Fail> {
+    are_refused::<Arrays<'_>, HostRuntime>(&rt, rt.alloc(), ARRAYS)
+}
+
+fn are_refused<L: LendsArrays, R: Abort>(rt: &R, alloc: Global, lender: L) -> Result<(), Fail> {
+    let session = Session::new(alloc, lender);
+    for place in 0..WORDS.len() {
+        for other in [0, 1, 2, 3, 4, 5, 6, 1 << 32, u64::MAX] {
+            let mut words = Vec::new(alloc);
+            words.extend_from_slice(WORDS)?;
+            words.as_mut_slice()[place] = other;
+            let is_same = words.as_slice() == WORDS;
+            assert!(rt;
+                session.check(0, Verdict::Yes, words.as_slice())? == is_same,
+                "{other} at {place}"
+            );
+        }
+        assert!(rt;
+            !session.check(0, Verdict::Yes, &WORDS[..place])?,
+            "{place} words"
+        );
+    }
+    Ok(())
+}
+
+#[test]
+fn unknown_goals_are_wanted(rt: HostRuntime) -> Result<(), Fail> {
+    are_wanted::<Arrays<'_>, HostRuntime>(&rt, rt.alloc(), ARRAYS)
+}
+
+fn are_wanted<L: LendsArrays, R: Abort>(rt: &R, alloc: Global, lender: L) -> Result<(), Fail> {
+    let mut session = Session::new(alloc, lender);
+    assert!(rt; session.ask(DEPTH, 6)?.outcome == Outcome::Yes);
+    assert!(rt; session.ask(DEPTH, 7)?.outcome == Outcome::No); // there is none
+    assert!(rt; session.wanted()?.is_empty());
+    let maybe = session.ask(DEPTH, 3)?;
+    assert!(rt; maybe.outcome == Outcome::Maybe && maybe.node.is_none());
+    assert!(rt; session.wanted()?.as_slice() == [4].as_slice());
+
+    // One that has no depth left is wanted, too.
+    let mut short = Session::new(alloc, lender);
+    assert!(rt; short.ask(1, 3)?.limits_met);
+    assert!(rt; short.wanted()?.as_slice() == [4].as_slice());
+    Ok(())
+}
