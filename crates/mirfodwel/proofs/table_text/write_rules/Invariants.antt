@@ -1,0 +1,8 @@
+use Rattle.std.proofs.Common.{◌≡◌, ◌++◌, take}
+use Rattle.std.specs.List.{flat_map}
+use Rattle.mirfodwel.specs.TableText.{rule_text}
+use Rattle.mirfodwel.proofs.table_text.write_rules.Given as goal
+
+abbrev pub invariant-loop-row : goal.invariant-loop-row
+invariant-loop-row l =
+    l.text.items ≡ l.fn.text.items ++ flat_map (rule_text l.questions l.place) (take l.row-index l.rows)

@@ -1,0 +1,29 @@
+//! The rows that a session is opened with.
+
+use rule_arrays::{CandidateRow, GoalRow, LendsArrays, QuestionRow};
+
+/// Rows in the caller's memory, which stay as they are for as long as the session is open. A handle can't name how long
+/// that is, so it is said to be for ever. This is a struct of its own, as a search can't be held whose type names a
+/// lifetime.
+#[derive(Clone, Copy)]
+pub struct Lent {
+    pub goals: &'static [GoalRow],
+    pub candidates: &'static [CandidateRow],
+    pub questions: &'static [QuestionRow],
+}
+
+impl LendsArrays for Lent {
+    ghost table_of = { λ lent. record { goals = lent.goals.now; candidates = lent.candidates.now; questions = lent.questions.now } };
+
+    fn goals(&self) -> &[GoalRow] {
+        self.goals
+    }
+
+    fn candidates(&self) -> &[CandidateRow] {
+        self.candidates
+    }
+
+    fn questions(&self) -> &[QuestionRow] {
+        self.questions
+    }
+}

@@ -1,0 +1,55 @@
+/*
+ * soak SECONDS FILE..: opens a session over the rows of each table in turn, asks all its goals, hands out and checks graphs, shows a goal and closes it,
+ * and answers the text, for so long. Each second it tells how often, and how much of malloc's memory is in use, which may not grow.
+ */
+#include "callers.h"
+#include <malloc.h>
+#include <time.h>
+
+static void use(struct bytes text, const struct rows *rows) {
+    static uint8_t out[1 << 16];
+    static uint64_t words[1 << 13];
+    size_t used;
+    mirfodwel_session session = {0};
+    mirfodwel_row_fault fault;
+    mirfodwel_goals(text.at, text.length, out, sizeof out, &used);
+    expect(open_over(&session, rows, &fault) == MIRFODWEL_DONE, "it is not opened");
+    for (uint32_t goal = 0; goal < rows->sizes.goals; goal++) {
+        mirfodwel_answer answer;
+        bool is_valid = false;
+        expect(mirfodwel_ask(&session, rows->sizes.goals, goal, &answer) == MIRFODWEL_DONE, "goal %u is not answered", goal);
+        if (answer.outcome < 2 && mirfodwel_graph(&session, answer.node, words, 1 << 13, &used) == MIRFODWEL_DONE)
+            expect(mirfodwel_check_graph(&session, goal, answer.outcome, words, used, &is_valid) == MIRFODWEL_DONE && is_valid, "a graph is not valid");
+    }
+    mirfodwel_explain_goal(&session, chance(3), 9, chance(rows->sizes.goals), rows->names, rows->sizes.names, out, sizeof out, &used);
+    expect(mirfodwel_close(&session) == MIRFODWEL_DONE, "it is not closed");
+}
+
+int main(int count, char **words) {
+    struct bytes texts[64];
+    struct rows rows[64];
+    int tables = 0;
+    if (count < 3)
+        return 2;
+    for (int place = 2; place < count && tables < 64; place++, tables++) {
+        texts[tables] = read_file(words[place]);
+        if (read_rows(texts[tables], &rows[tables]) != MIRFODWEL_DONE)
+            tables--;
+    }
+    time_t end = time(NULL) + atol(words[1]), told = 0;
+    size_t first = 0, last = 0, tellings = 0;
+    for (long turns = 0; time(NULL) < end && failed == 0; turns++) {
+        for (int place = 0; place < tables; place++)
+            use(texts[place], &rows[place]);
+        if (time(NULL) != told) {
+            told = time(NULL);
+            last = mallinfo2().uordblks;
+            /* malloc keeps some blocks at hand from the beginning on. */
+            first = tellings++ < 2 ? last : first;
+            printf("%ld turns, %zu bytes in use\n", turns + 1, last);
+            fflush(stdout);
+        }
+    }
+    expect(last <= first, "%zu bytes are in use at the end, and %zu at first", last, first);
+    return finish();
+}

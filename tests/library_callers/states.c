@@ -1,0 +1,310 @@
+/*
+ * What calls do that are refused: sessions in the wrong state, rows and numbers that are not in order, rooms that are too small; what they
+ * leave; goals that are made known in rounds; and the words in which goals are shown.
+ */
+#include "callers.h"
+
+#define COUNT(array) (sizeof(array) / sizeof *(array))
+
+static struct bytes text_of(const char *text) {
+    return (struct bytes){(uint8_t *)text, strlen(text)};
+}
+
+/* A ring of two goals, one that does not hold, and one that nothing says anything of. */
+static const char *const table = "rule A = i:B\nrule B = c:A\nrule C = i:C\nask 4 D\n";
+
+/* All calls but mirfodwel_open refuse a session that is closed, and write nothing. */
+static void closed(mirfodwel_session *session, const char *when) {
+    uint8_t out[64];
+    uint64_t words[4] = {0};
+    uint32_t goals[4];
+    size_t used = 77;
+    bool is_valid = true;
+    mirfodwel_answer answer;
+    memset(&answer, 0xA5, sizeof answer);
+    memset(out, 0xA5, sizeof out);
+    expect(mirfodwel_ask(session, 9, 0, &answer) == MIRFODWEL_WRONG_STATE, "ask %s", when);
+    expect(mirfodwel_graph(session, 0, words, 4, &used) == MIRFODWEL_WRONG_STATE, "graph %s", when);
+    expect(mirfodwel_check_graph(session, 0, 0, words, 4, &is_valid) == MIRFODWEL_WRONG_STATE, "check_graph %s", when);
+    expect(mirfodwel_wanted(session, goals, 4, &used) == MIRFODWEL_WRONG_STATE, "wanted %s", when);
+    expect(mirfodwel_explain_goal(session, 0, 9, 0, out, 0, out, 64, &used) == MIRFODWEL_WRONG_STATE, "explain_goal %s", when);
+    expect(mirfodwel_last_fault(session, out, 64, &used) == MIRFODWEL_WRONG_STATE, "last_fault %s", when);
+    expect(mirfodwel_held(session, &used) == MIRFODWEL_WRONG_STATE, "held %s", when);
+    expect(mirfodwel_close(session) == MIRFODWEL_WRONG_STATE, "close %s", when);
+    expect(is_untouched(&answer, sizeof answer) && is_untouched(out, sizeof out) && is_valid && used == 77, "a call %s writes something", when);
+    expect(is_all_zero(session), "a call %s opens the session", when);
+}
+
+static void states(const struct rows *rows) {
+    mirfodwel_session session = {0};
+    mirfodwel_row_fault fault = {9, 99};
+    mirfodwel_answer first, second;
+    closed(&session, "before it is opened");
+    for (int turn = 0; turn < 3; turn++) {
+        expect(open_over(&session, rows, &fault) == MIRFODWEL_DONE && session.is_open, "it is not opened in turn %d", turn);
+        expect(mirfodwel_ask(&session, 9, 0, &first) == MIRFODWEL_DONE && first.outcome == MIRFODWEL_YES && first.started == 2, "A does not hold");
+        mirfodwel_session before = session;
+        expect(open_over(&session, rows, &fault) == MIRFODWEL_WRONG_STATE && session.is_open && session.inside == before.inside, "it is opened twice");
+        expect(fault.list == 9 && fault.place == 99, "a row is called bad");
+        expect(mirfodwel_ask(&session, 9, 0, &second) == MIRFODWEL_DONE && second.outcome == MIRFODWEL_YES && second.started == 0,
+            "what was worked out is lost where it is opened twice");
+        expect(mirfodwel_close(&session) == MIRFODWEL_DONE, "it is not closed in turn %d", turn);
+        closed(&session, "after it is closed");
+    }
+}
+
+/* Numbers that mean nothing in an open session, which goes on. */
+static void unknown(const struct rows *rows) {
+    mirfodwel_session session = {0};
+    mirfodwel_row_fault fault;
+    mirfodwel_answer answer;
+    struct graph graph;
+    uint8_t out[64];
+    size_t used = 77, nodes = 0;
+    bool is_valid = true;
+    memset(out, 0xA5, sizeof out);
+    open_over(&session, rows, &fault);
+    memset(&answer, 0xA5, sizeof answer);
+    const uint32_t strange[] = {4, 5, 2147483648u, 4294967295u};
+    for (size_t place = 0; place < COUNT(strange); place++) {
+        expect(mirfodwel_ask(&session, 9, strange[place], &answer) == MIRFODWEL_UNKNOWN, "goal %u is asked", strange[place]);
+        expect(mirfodwel_check_graph(&session, strange[place], 0, (uint64_t *)out, 0, &is_valid) == MIRFODWEL_UNKNOWN, "goal %u is checked",
+            strange[place]);
+        expect(mirfodwel_explain_goal(&session, 0, 9, strange[place], out, 0, out + 1, 63, &used) == MIRFODWEL_UNKNOWN, "goal %u is shown",
+            strange[place]);
+    }
+    for (int number = 2; number < 256; number++) {
+        expect(mirfodwel_check_graph(&session, 0, number, (uint64_t *)out, 0, &is_valid) == MIRFODWEL_UNKNOWN, "verdict %d is checked", number);
+        if (number > 2) {
+            expect(mirfodwel_explain_goal(&session, number, 9, 0, out, 0, out + 1, 63, &used) == MIRFODWEL_UNKNOWN, "form %d is shown", number);
+            expect(mirfodwel_explain(number, out, 0, out + 1, 63, &used) == MIRFODWEL_UNKNOWN, "form %d of a text is shown", number);
+        }
+    }
+    expect(is_untouched(&answer, sizeof answer) && is_untouched(out, sizeof out) && is_valid && used == 77, "what is unknown writes something");
+    expect(mirfodwel_graph(&session, 0, (uint64_t *)out, 8, &used) == MIRFODWEL_UNKNOWN, "a graph before any question");
+    expect(mirfodwel_ask(&session, 9, 0, &answer) == MIRFODWEL_DONE && answer.has_graph, "A has no graph");
+    expect(mirfodwel_held(&session, &nodes) == MIRFODWEL_DONE && nodes > 0, "%zu nodes are held", nodes);
+    const size_t far[] = {nodes + 5, 1u << 31, SIZE_MAX / 2, SIZE_MAX};
+    for (size_t place = 0; place < COUNT(far); place++)
+        expect(mirfodwel_graph(&session, far[place], (uint64_t *)out, 8, &used) == MIRFODWEL_UNKNOWN, "node %zu has a graph", far[place]);
+    expect(used == 77 && is_untouched(out, sizeof out), "a graph that there is not is written");
+    expect(graph_of(&session, answer.node, &graph) == MIRFODWEL_DONE, "A has no graph any more");
+    for (size_t room = 0; room < graph.length; room++) {
+        uint64_t *words = fenced(room * sizeof *words);
+        expect(mirfodwel_graph(&session, answer.node, words, room, &used) == MIRFODWEL_NO_ROOM && used == graph.length &&
+                is_untouched(words, room * sizeof *words), "a graph of %zu words in room for %zu", graph.length, room);
+        drop_fenced(words, room * sizeof *words);
+    }
+    drop_graph(&graph);
+    mirfodwel_close(&session);
+}
+
+struct bad_rows {
+    mirfodwel_goal goals[3];
+    mirfodwel_candidate candidates[2];
+    mirfodwel_question questions[2];
+    int list; /* none is bad where it is below 0 */
+    size_t place;
+};
+
+#define MANY 4294967295u
+static const struct bad_rows bad[] = {
+    {{{0, 1}, {1, 1}, {0, 2}}, {{0, 2, 0}, {1, 1, 1}}, {{0, 2}, {3, 0}}, -1, 0},
+    {{{0, 0}, {2, 0}, {MANY, MANY}}, {{2, 0, 0}, {0, 0, 1}}, {{1, 1}, {2, 1}}, -1, 0},
+    {{{0, 1}, {1, 2}, {0, 9}}, {{0, 2, 0}, {1, 1, 1}}, {{0, 2}, {3, 0}}, 0, 1},
+    {{{0, 1}, {1, 1}, {MANY, MANY - 1}}, {{0, 2, 0}, {1, 1, 1}}, {{0, 2}, {3, 0}}, 0, 2},
+    {{{MANY, 1}, {1, 1}, {0, 0}}, {{0, 2, 0}, {1, 1, 1}}, {{0, 2}, {3, 0}}, 0, 0},
+    {{{0, 1}, {1, 1}, {0, 0}}, {{0, 3, 0}, {1, 9, 9}}, {{0, 2}, {3, 0}}, 1, 0},
+    {{{0, 1}, {1, 1}, {0, 0}}, {{0, 2, 0}, {1, 1, 2}}, {{9, 2}, {3, 0}}, 1, 1},
+    {{{0, 1}, {1, 1}, {0, 0}}, {{0, MANY, 0}, {1, 1, 0}}, {{0, 2}, {3, 0}}, 1, 0},
+    {{{0, 1}, {1, 1}, {0, 0}}, {{MANY, MANY, 0}, {1, 1, 0}}, {{0, 2}, {3, 0}}, 1, 0},
+    {{{0, 1}, {1, 1}, {0, 0}}, {{0, 2, 0}, {1, 1, 1}}, {{0, 2}, {4, 0}}, 2, 1},
+    {{{0, 1}, {1, 1}, {0, 0}}, {{0, 2, 0}, {1, 1, 1}}, {{0, 3}, {4, 0}}, 2, 0},
+    {{{0, 1}, {1, 1}, {0, 0}}, {{0, 2, 0}, {1, 1, 1}}, {{MANY, 0}, {0, MANY}}, 2, 0},
+    {{{0, 1}, {1, 1}, {0, 0}}, {{0, 2, 0}, {1, 1, 1}}, {{1, 0}, {0, MANY}}, 2, 1},
+};
+
+static void row_faults(void) {
+    for (size_t place = 0; place < COUNT(bad); place++) {
+        const struct bad_rows *it = &bad[place];
+        mirfodwel_session session = {0};
+        mirfodwel_row_fault fault = {9, 99};
+        mirfodwel_status status = mirfodwel_open(&session, it->goals, 3, it->candidates, 2, it->questions, 2, &fault);
+        if (it->list < 0) {
+            expect(status == MIRFODWEL_DONE, "rows %zu are refused at row %zu of list %d", place, fault.place, fault.list);
+            expect(mirfodwel_close(&session) == MIRFODWEL_DONE, "rows %zu are not closed", place);
+        } else {
+            expect(status == MIRFODWEL_BAD_INPUT && fault.list == it->list && fault.place == it->place,
+                "rows %zu are bad at row %zu of list %d, and they say %zu of %d, status %d", place, it->place, it->list, fault.place, fault.list, status);
+            closed(&session, "after bad rows");
+        }
+    }
+}
+
+/* Arrays with no row at all are rules, too. */
+static void nothing_at_all(void) {
+    mirfodwel_session session = {0};
+    mirfodwel_row_fault fault;
+    mirfodwel_answer answer;
+    struct rows rows = fenced_rows((mirfodwel_sizes){0, 0, 0, 0});
+    size_t used = 77;
+    expect(open_over(&session, &rows, &fault) == MIRFODWEL_DONE, "no rows are refused");
+    expect(mirfodwel_ask(&session, 9, 0, &answer) == MIRFODWEL_UNKNOWN, "a goal that there is not is asked");
+    expect(mirfodwel_held(&session, &used) == MIRFODWEL_DONE && used == 0, "nodes of nothing");
+    expect(mirfodwel_close(&session) == MIRFODWEL_DONE, "no rows are not closed");
+    for (size_t place = 0; place < TEXT_CALLS; place++) {
+        struct bytes out;
+        mirfodwel_status status = call_text(text_calls[place].call, (struct bytes){rows.names, 0}, &out);
+        bool is_data = text_calls[place].call == mirfodwel_check;
+        expect(status == (is_data ? MIRFODWEL_BAD_INPUT : MIRFODWEL_DONE), "of an empty text %s has status %d", text_calls[place].name, status);
+        drop_fenced(out.at, out.length);
+    }
+    drop_rows(&rows);
+}
+
+/* Where one of the four arrays is too short by one, nothing is read into any. */
+static void short_arrays(const char *text) {
+    struct rows whole;
+    size_t line = 77;
+    expect(read_rows(text_of(text), &whole) == MIRFODWEL_DONE, "'%s' is not read", text);
+    for (int which = 0; which < 4; which++) {
+        mirfodwel_sizes sizes = whole.sizes;
+        size_t *part = which == 0 ? &sizes.goals : which == 1 ? &sizes.candidates : which == 2 ? &sizes.questions : &sizes.names;
+        if (!*part)
+            continue;
+        --*part;
+        struct rows rows = fenced_rows(sizes);
+        mirfodwel_status status = read_into(text_of(text), &rows, &line);
+        expect(status == MIRFODWEL_NO_ROOM && has_sizes(rows.sizes, whole.sizes) && line == 77, "with array %d too short the status is %d", which, status);
+        expect(is_untouched(rows.goals, sizes.goals * sizeof(mirfodwel_goal)) &&
+                is_untouched(rows.candidates, sizes.candidates * sizeof(mirfodwel_candidate)) &&
+                is_untouched(rows.questions, sizes.questions * sizeof(mirfodwel_question)) && is_untouched(rows.names, sizes.names),
+            "with array %d too short something is written", which);
+        rows.sizes = sizes;
+        drop_rows(&rows);
+    }
+    drop_rows(&whole);
+}
+
+static void names(const struct rows *rows) {
+    const struct bytes all = {rows->names, rows->sizes.names};
+    expect(all.length == 8 && !memcmp(all.at, "A\nB\nC\nD\n", 8), "the names are '%.*s'", (int)all.length, (char *)all.at);
+    for (uint32_t place = 0; place < 4; place++) {
+        uint32_t goal = 77;
+        uint8_t name = 'A' + place;
+        expect(mirfodwel_find(all.at, all.length, &name, 1, &goal) == MIRFODWEL_DONE && goal == place, "%c is goal %u", name, goal);
+    }
+    const char *const strange[] = {"", "E", "AB", "A\n", "A\nB", "\n", "a"};
+    for (size_t place = 0; place < COUNT(strange); place++) {
+        uint32_t goal = 77;
+        struct bytes name = text_of(strange[place]);
+        expect(mirfodwel_find(all.at, all.length, name.at, name.length, &goal) == MIRFODWEL_UNKNOWN && goal == 77, "'%s' is goal %u", strange[place], goal);
+    }
+}
+
+static void bad_lines(void) {
+    const char *const texts[] = {"rul\n", "rule A =\nrule\n", "rule A =\n\n# x\nask 1 A\nrule A = x:A", "ask 12345678 A\n"};
+    const size_t lines[] = {1, 2, 5, 1};
+    for (size_t place = 0; place < COUNT(texts); place++) {
+        struct rows rows = fenced_rows((mirfodwel_sizes){0, 0, 0, 0});
+        size_t line = 77;
+        mirfodwel_status status = read_into(text_of(texts[place]), &rows, &line);
+        expect(status == MIRFODWEL_BAD_INPUT && line == lines[place], "'%s': status %d, line %zu", texts[place], status, line);
+        drop_rows(&rows);
+    }
+}
+
+/* Asks in rounds: what was wanted is made known in the next one, until nothing is. Goal n asks n + 1, the last one holds. */
+static void rounds(void) {
+    mirfodwel_goal goals[8];
+    mirfodwel_candidate candidates[8];
+    mirfodwel_question questions[8];
+    size_t used = 1, turns = 0;
+    uint32_t wanted[8] = {0}, next = 0;
+    mirfodwel_answer answer;
+    for (uint32_t place = 0; place < 8; place++) {
+        goals[place] = (mirfodwel_goal){MANY - place, MIRFODWEL_NOT_KNOWN};
+        candidates[place] = (mirfodwel_candidate){place, place < 7, 0};
+        questions[place] = (mirfodwel_question){MIRFODWEL_INDUCTIVE, place < 7 ? place + 1 : 0};
+    }
+    while (used) {
+        mirfodwel_session session = {0};
+        mirfodwel_row_fault fault;
+        expect(mirfodwel_open(&session, goals, 8, candidates, 8, questions, 8, &fault) == MIRFODWEL_DONE, "round %zu is not opened", turns);
+        expect(mirfodwel_ask(&session, 8, 0, &answer) == MIRFODWEL_DONE, "round %zu is not answered", turns);
+        expect(answer.outcome == (next == 8 ? MIRFODWEL_YES : MIRFODWEL_MAYBE), "round %zu answers %s", turns, outcome_words[answer.outcome]);
+        expect(mirfodwel_wanted(&session, wanted, 0, &used) == (next == 8 ? MIRFODWEL_DONE : MIRFODWEL_NO_ROOM), "round %zu wants %zu", turns, used);
+        expect(mirfodwel_wanted(&session, wanted, 8, &used) == MIRFODWEL_DONE && used == (next < 8), "round %zu wants %zu goals", turns, used);
+        if (used && expect(wanted[0] == next, "round %zu wants goal %u", turns, wanted[0])) {
+            goals[next] = (mirfodwel_goal){next, 1};
+            next++;
+        }
+        mirfodwel_close(&session);
+        if (++turns > 9)
+            break;
+    }
+    expect(turns == 9, "there are %zu rounds", turns);
+}
+
+/* A goal is shown as a text with this one question shows it. */
+static void shown(const struct rows *rows) {
+    text_call *const forms[] = {explain_text, explain_graphviz};
+    mirfodwel_session session = {0};
+    mirfodwel_row_fault fault;
+    open_over(&session, rows, &fault);
+    for (uint32_t goal = 0; goal < 4; goal++) {
+        char text[200];
+        snprintf(text, sizeof text, "rule A = i:B\nrule B = c:A\nrule C = i:C\nask 4 %c\n", 'A' + goal);
+        for (uint8_t form = 0; form < 2; form++) {
+            struct bytes wanted, out;
+            call_text(forms[form], text_of(text), &wanted);
+            out = (struct bytes){fenced(wanted.length), 0};
+            mirfodwel_status status = mirfodwel_explain_goal(&session, form, 4, goal, rows->names, rows->sizes.names, out.at, wanted.length, &out.length);
+            expect(status == MIRFODWEL_DONE && is_same(out, wanted), "goal %u in form %u is shown, status %d, as '%.*s' and not '%.*s'", goal, form, status,
+                (int)out.length, (char *)out.at, (int)wanted.length, (char *)wanted.at);
+            drop_fenced(out.at, wanted.length);
+            drop_fenced(wanted.at, wanted.length);
+        }
+    }
+    size_t nodes = 77;
+    expect(mirfodwel_held(&session, &nodes) == MIRFODWEL_DONE && nodes == 0, "the session holds %zu nodes of what was shown", nodes);
+    mirfodwel_close(&session);
+}
+
+/* A goal that has no name is called by its number; data that is shown is accepted. */
+static void shown_by_number(const struct rows *rows) {
+    mirfodwel_session session = {0};
+    mirfodwel_row_fault fault;
+    uint8_t out[1000], told[1000];
+    size_t used = 0, length = 0;
+    open_over(&session, rows, &fault);
+    mirfodwel_status status = mirfodwel_explain_goal(&session, MIRFODWEL_TEXT, 4, 1, out, 0, out + 1, 999, &used);
+    expect(status == MIRFODWEL_DONE && used > 8 && !memcmp(out + 1, "1 holds", 7), "goal 1 without a name is shown, status %d, as '%.*s'", status, (int)used,
+        (char *)out + 1);
+    for (size_t named = 0; named <= rows->sizes.names; named++) {
+        status = mirfodwel_explain_goal(&session, MIRFODWEL_DATA, 4, 2, rows->names, named, out, sizeof out, &used);
+        mirfodwel_status checked = mirfodwel_check(out, used, told, sizeof told, &length);
+        expect(status == MIRFODWEL_DONE && checked == MIRFODWEL_DONE, "goal 2 is shown with status %d and told with status %d: '%.*s'", status, checked,
+            (int)length, (char *)told);
+    }
+    mirfodwel_close(&session);
+}
+
+int main(void) {
+    struct rows rows;
+    expect(read_rows(text_of(table), &rows) == MIRFODWEL_DONE && rows.sizes.goals == 4 && rows.sizes.candidates == 3 && rows.sizes.questions == 3,
+        "the table has other rows");
+    states(&rows);
+    unknown(&rows);
+    row_faults();
+    nothing_at_all();
+    short_arrays(table);
+    short_arrays("rule A =\n");
+    names(&rows);
+    bad_lines();
+    rounds();
+    shown(&rows);
+    shown_by_number(&rows);
+    drop_rows(&rows);
+    return finish();
+}
