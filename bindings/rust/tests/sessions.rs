@@ -1,0 +1,193 @@
+//! Sessions: what they own and give back, what they refuse, and which thread has them.
+mod cases;
+
+use mirfodwel::{texts, Candidate, Error, Form, Goal, Graph, Outcome, PathKind, Question, Reply, Session, Table};
+
+const TEXT: &str = "rule A = i:B c:C\nrule B =\nrule C = c:A\nrule D = i:E\nrule E = i:D\nrule F = u:F\n";
+
+fn session() -> Session {
+    Session::open(Table::read(TEXT).unwrap()).unwrap()
+}
+
+fn outcome(session: &mut Session, name: &str) -> Outcome {
+    let goal = session.table().goal(name).unwrap();
+    session.ask(goal, 10).unwrap().outcome
+}
+
+#[test]
+fn a_graph_says_why() {
+    let mut session = session();
+    let goal = session.table().goal("A").unwrap();
+    let answer = session.ask(goal, 10).unwrap();
+    let graph = session.graph(answer.node.unwrap()).unwrap();
+    let root = graph.root().unwrap();
+    let edges: Vec<_> = root.edges().map(|it| (it.kind, *it.target.goal(), it.target.outcome())).collect();
+    let asked = |name| session.table().goal(name).unwrap();
+    let wanted = [(PathKind::Inductive, asked("B"), Outcome::Yes), (PathKind::Coinductive, asked("C"), Outcome::Yes)];
+    assert_eq!((answer.outcome, *root.goal(), edges.as_slice()), (Outcome::Yes, goal, &wanted[..]));
+    let told: Vec<_> = root.replies().collect();
+    assert_eq!(
+        told,
+        [Reply::Begin, Reply::Noted, Reply::Answer(Outcome::Yes), Reply::Answer(Outcome::Yes), Reply::Noted]
+    );
+    assert_eq!((graph.len(), graph.nodes().len(), graph.node(3).is_none()), (3, 3, true));
+    assert_eq!(Graph::from_words(graph.words().to_vec()), Ok(graph));
+    assert!(session.held_nodes().unwrap() >= 3);
+}
+
+#[test]
+fn changed_graphs_are_refused() {
+    let mut session = session();
+    let goal = session.table().goal("A").unwrap();
+    let answer = session.ask(goal, 10).unwrap();
+    let graph = session.graph(answer.node.unwrap()).unwrap();
+    let (mut none, mut refused) = (0, 0);
+    for place in 0..graph.words().len() {
+        for value in (0..7).chain([u64::from(u32::MAX), u64::MAX]) {
+            let mut words = graph.words().to_vec();
+            if std::mem::replace(&mut words[place], value) == value {
+                continue;
+            }
+            match Graph::from_words(words) {
+                Ok(changed) => {
+                    assert!(!session.check(goal, Outcome::Yes, &changed).unwrap(), "{place} {value}");
+                    refused += 1;
+                }
+                Err(error) => {
+                    assert!(matches!(error, Error::BadGraph { .. }), "{error}");
+                    none += 1;
+                }
+            }
+        }
+    }
+    assert!(none > 0 && refused > 0);
+    assert_eq!(session.check(goal, Outcome::Maybe, &graph), Ok(false));
+    assert_eq!(session.check(goal, Outcome::Yes, &Graph::from_words(vec![]).unwrap()), Ok(false));
+    assert_eq!(Graph::from_words(vec![0, 0, 5]), Err(Error::BadGraph { place: 2 }));
+}
+
+#[test]
+fn what_is_not_there_is_an_error() {
+    let mut session = session();
+    let unknown = Goal(6);
+    assert_eq!(session.ask(unknown, 3), Err(Error::UnknownGoal(unknown)));
+    assert_eq!(session.explain(Form::Text, unknown, 3), Err(Error::UnknownGoal(unknown)));
+    assert_eq!(session.table().goal("nobody"), None);
+    assert_eq!((session.table().name(unknown), session.table().candidates(unknown)), (None, None));
+    let node = session.ask(Goal(0), 3).unwrap().node.unwrap();
+    let graph = session.graph(node).unwrap();
+    assert_eq!(session.check(unknown, Outcome::Yes, &graph), Err(Error::UnknownGoal(unknown)));
+    // A node of another session is none of this.
+    assert_eq!(self::session().graph(node), Err(Error::UnknownNode));
+    session.change(|_| ());
+    assert_eq!(session.graph(node), Err(Error::UnknownNode));
+    let mut table = session.close();
+    let asks = |goal| [Candidate::new([Question::inductive(goal)])];
+    let before = table.clone();
+    assert_eq!(table.set_candidates(Goal(0), &asks(unknown)), Err(Error::UnknownGoal(unknown)));
+    assert_eq!(table.set_candidates(unknown, &asks(Goal(0))), Err(Error::UnknownGoal(unknown)));
+    assert_eq!(table, before);
+    assert_eq!(Table::read("rule A =\nrule\n").unwrap_err().to_string(), "line 2: bad line");
+    // A goal that only questions name has no candidates.
+    let asked = Table::read("ask 4 A\n").unwrap();
+    assert!(asked.goal("A").is_none_or(|it| asked.candidates(it) == Some(vec![])));
+    let error: Box<dyn std::error::Error> = Box::new(texts::check("{").unwrap_err());
+    assert!(error.to_string().starts_with("byte "), "{error}");
+}
+
+#[test]
+fn goals_become_known_in_rounds() {
+    let mut table = Table::new();
+    let goals: Vec<_> = (0..3).map(|_| table.add_goal().unwrap()).collect();
+    table.set_candidates(goals[0], &[Candidate::new([Question::inductive(goals[2])])]).unwrap();
+    let mut session = Session::open(table).unwrap();
+    assert_eq!(session.wanted(), Ok(vec![]));
+    assert_eq!(session.ask(goals[0], 3).unwrap().outcome, Outcome::Maybe);
+    assert_eq!(session.wanted(), Ok(vec![goals[2]]));
+    session.change(|table| table.set_candidates(goals[2], &[Candidate::new([])])).unwrap();
+    assert_eq!(session.wanted(), Ok(vec![]));
+    assert_eq!(session.ask(goals[0], 3).unwrap().outcome, Outcome::Yes);
+    // Only an unmarked candidate takes away what is marked.
+    let both = [Candidate::new([Question::coinductive(goals[0])]).marked(), Candidate::new([])];
+    session.change(|table| table.set_candidates(goals[0], &both)).unwrap();
+    let answer = session.ask(goals[0], 3).unwrap();
+    assert_eq!(session.graph(answer.node.unwrap()).unwrap().root().unwrap().edges().count(), 0);
+    assert_eq!(session.close().candidates(goals[0]), Some(both.to_vec()));
+}
+
+#[test]
+fn explanations_have_the_names_of_the_table() {
+    let mut session = session();
+    let texts_say = texts::explain(Form::Text, format!("{TEXT}ask 10 D\n")).unwrap();
+    let goal = session.table().goal("D").unwrap();
+    assert_eq!(session.explain(Form::Text, goal, 10).unwrap(), texts_say);
+    let data = session.explain(Form::Data, goal, 10).unwrap();
+    assert_eq!(texts::check(data.as_str()).unwrap().as_str(), format!("{} no accepted\n", goal.0));
+    assert!(session.explain(Form::Graphviz, goal, 10).unwrap().as_str().starts_with("digraph"));
+    // Without names goals are told by their numbers.
+    let mut table = Table::new();
+    let goal = table.add_goal().unwrap();
+    table.set_candidates(goal, &[Candidate::new([])]).unwrap();
+    let told = Session::open(table).unwrap().explain(Form::Text, goal, 1).unwrap();
+    assert!(told.as_str().starts_with("0 holds"), "{told}");
+}
+
+#[test]
+fn types_are_compared() {
+    let lines = texts::subtypes("type A = base Int\ntype B = { x: A }\nask B < A\nask B < B\n").unwrap();
+    assert_eq!(lines.iter().map(|it| &it[..9]).collect::<Vec<_>>(), ["B < A no:", "B < B yes"]);
+    assert!(lines.are_all_well());
+}
+
+/// How many pages of memory the process has.
+fn pages() -> Option<usize> {
+    std::fs::read_to_string("/proc/self/statm").ok()?.split(' ').nth(1)?.parse().ok()
+}
+
+#[test]
+fn dropping_gives_all_memory_back() {
+    let text: String = (0..2000).map(|it| format!("rule g{it} = c:g{}\n", (it + 1) % 2000)).collect();
+    let mut table = Table::read(&text).unwrap();
+    let mut use_one = || {
+        let mut session = Session::open(std::mem::take(&mut table)).unwrap();
+        assert_eq!(session.ask(Goal(0), 2000).unwrap().outcome, Outcome::Yes);
+        assert!(session.held_nodes().unwrap() >= 2000);
+        let taken = session.table().clone();
+        drop(session);
+        table = taken;
+    };
+    (0..20).for_each(|_| use_one());
+    let before = pages();
+    (0..400).for_each(|_| use_one());
+    // One that is not closed keeps half a megabyte at least.
+    let grown = before.zip(pages()).map_or(0, |(before, after)| after.saturating_sub(before));
+    assert!(grown < 8_000, "{grown} pages more");
+}
+
+#[test]
+fn sessions_go_from_thread_to_thread() {
+    let mut session = session();
+    assert_eq!(outcome(&mut session, "A"), Outcome::Yes);
+    let moved = std::thread::spawn(move || {
+        assert_eq!(outcome(&mut session, "D"), Outcome::No);
+        let stored = session.ask(Goal(0), 10).unwrap();
+        (stored, session)
+    });
+    let (stored, mut session) = moved.join().unwrap();
+    assert_eq!((stored.outcome, stored.runs), (Outcome::Yes, 0));
+    assert!(session.graph(stored.node.unwrap()).is_ok());
+    assert_eq!(outcome(&mut session, "F"), Outcome::Maybe);
+}
+
+#[test]
+fn sessions_do_not_disturb_each_other() {
+    let work = || {
+        for _ in 0..200 {
+            let mut session = session();
+            let came = ["A", "D", "F"].map(|name| outcome(&mut session, name));
+            assert_eq!(came, [Outcome::Yes, Outcome::No, Outcome::Maybe]);
+            assert_eq!(texts::answers(format!("{TEXT}ask 9 A\n")).unwrap().as_str(), "A yes 3\n");
+        }
+    };
+    std::thread::scope(|scope| (0..8).for_each(|_| drop(scope.spawn(work))));
+}
