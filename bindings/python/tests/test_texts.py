@@ -84,6 +84,8 @@ class Children(unittest.TestCase):
             mirfodwel.run_with_timeout(mirfodwel.goals, dense_text(60), 0.5)
 
     def test_an_interrupt_ends_it(self):
+        # Where the tests run in the background, a shell may have it ignored.
+        self.addCleanup(signal.signal, signal.SIGINT, signal.signal(signal.SIGINT, signal.default_int_handler))
         timer = threading.Timer(0.5, os.kill, (os.getpid(), signal.SIGINT))
         timer.start()
         self.addCleanup(timer.cancel)
