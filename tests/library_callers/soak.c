@@ -26,30 +26,34 @@ static void use(struct bytes text, const struct rows *rows) {
 }
 
 int main(int count, char **words) {
-    struct bytes texts[64];
-    struct rows rows[64];
+    /* They stay to the end. */
+    static struct bytes texts[64];
+    static struct rows rows[64];
     int tables = 0;
     if (count < 3)
         return 2;
     for (int place = 2; place < count && tables < 64; place++, tables++) {
         texts[tables] = read_file(words[place]);
-        if (read_rows(texts[tables], &rows[tables]) != MIRFODWEL_DONE)
+        if (read_rows(texts[tables], &rows[tables]) != MIRFODWEL_DONE) {
+            free(texts[tables].at);
             tables--;
+        }
     }
-    time_t end = time(NULL) + atol(words[1]), told = 0;
-    size_t first = 0, last = 0, tellings = 0;
+    long seconds = atol(words[1]);
+    time_t begun = time(NULL), end = begun + seconds, settled = begun + seconds / 10 + 2, told = 0;
+    size_t first = 0, last = 0;
     for (long turns = 0; time(NULL) < end && failed == 0; turns++) {
         for (int place = 0; place < tables; place++)
             use(texts[place], &rows[place]);
         if (time(NULL) != told) {
             told = time(NULL);
             last = mallinfo2().uordblks;
-            /* malloc keeps some blocks at hand from the beginning on. */
-            first = tellings++ < 2 ? last : first;
+            /* malloc comes to keep some blocks at hand, so the most that was in use in the first tenth of the time is what counts. */
+            first = told <= settled && last > first ? last : first;
             printf("%ld turns, %zu bytes in use\n", turns + 1, last);
             fflush(stdout);
         }
     }
-    expect(last <= first, "%zu bytes are in use at the end, and %zu at first", last, first);
+    expect(last <= first, "%zu bytes are in use at the end, and %zu at most at first", last, first);
     return finish();
 }
