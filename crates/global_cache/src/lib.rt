@@ -65,6 +65,17 @@ impl<D: Delegate> GlobalCache<D> {
         }
     }
 
+    /// Makes the cache as good as a new one with this context. It has the memory of what was in it, as far as that is no more
+    /// than was needed of late, and takes no other yet.
+    pub fn renew(&mut self, cx: D::Cx)
+        ensures { self.new ≡ record { cx = cx; nodes = []; results = [] } }
+    {
+        let alloc = self.nodes.allocator();
+        self.cx = cx;
+        self.nodes.clear();
+        self.results.clear(alloc);
+    }
+
     /// The context.
     pub fn cx(&self) -> D::Cx
         ensures { result ≡ self.now.cx }

@@ -5,6 +5,7 @@ ghost use Rattle.std.specs.Option.{option_copied};
 ghost use Rattle.global_cache.specs.Words.{WithOverflow, stored_at, AnswersStoring, KeepsResults, Puts};
 
 use crate::results::{Place, StoredResult};
+use graph_nodes::room::is_far_more;
 use search_context::context::{Cx, Fault, NoMemory};
 use std::alloc::Global;
 use std::collections::HashMap;
@@ -40,6 +41,17 @@ impl<X: Cx> ResultStore<X> {
             results: HashMap::new(alloc),
             has_overflow: false,
         }
+    }
+
+    /// Forgets all. The memory stays for what comes, but for a map that has room for far more than was in it.
+    pub(super) fn clear(&mut self, alloc: Global)
+        ensures { self.new ≡ [] }
+    {
+        if is_far_more(self.results.capacity(), self.results.len()) {
+            self.results = HashMap::new(alloc);
+        }
+        self.results.clear();
+        self.has_overflow = false;
     }
 
     /// What is stored of the goal at the place.

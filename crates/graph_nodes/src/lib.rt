@@ -17,3 +17,4 @@ mod held;
 mod hints;
 mod marking;
 pub mod node_list;
+pub mod room;

@@ -5,6 +5,7 @@ ghost use Rattle.graph_nodes.specs.Words.{open_node as new_node, open_goal, fini
 
 use crate::held::{place_from, place_of};
 use crate::marking::{keep_from, marked_from};
+use crate::room::is_far_more;
 use search_context::context::{Edge, NoMemory, Node, NodeId, Reply};
 use std::alloc::Global;
 use std::marker::Model;
@@ -110,6 +111,19 @@ impl<I: Copy, R: Drop> NodeList<I, R> {
         self.next = next;
         self.first_goal = self.first_goal.or(Some(input));
         Ok(number)
+    }
+
+    /// Lets go of all nodes, and counts from 0 again. The memory stays for those that come, but for a list that is far
+    /// longer than what was in it.
+    pub fn clear(&mut self)
+        ensures { self.new ≡ [] }
+    {
+        if is_far_more(self.held.capacity(), self.held.len()) {
+            self.held = Vec::new(*self.held.allocator());
+        }
+        self.held.clear();
+        self.next = 0;
+        self.first_goal = None;
     }
 
     // The node, if it is held.
