@@ -34,7 +34,7 @@ outcome_of (Unchecked outcome) = Ok outcome
 outcome_of (Fault fault) = Err fault
 
 -- the reason that is told of what is neither yes nor no
-abbrev pub reason_of : Came → Option Reason
+abbrev pub reason_of : Came → Option (Reason Goal)
 reason_of (Graph outcome nodes) = None
 reason_of (NoGraph outcome reason) = Some reason
 reason_of (Unchecked outcome) = None

@@ -14,11 +14,11 @@ pub record IsAskedBy (rules : Rules) (goal : Goal) (asking : Asking) : Type 0 wh
   pub asks : Contains rule.questions asking
 
 -- the question that was cut off, as a question of a rule
-abbrev pub asking_of : Cut → Asking
+abbrev pub asking_of : Cut Goal → Asking
 asking_of cut = record { kind = cut.kind; goal = cut.asked }
 
 -- the question that is named is one of a rule of the goal that is named beside it
-abbrev pub IsNamedByRules : Rules → Reason → Type 0
+abbrev pub IsNamedByRules : Rules → Reason Goal → Type 0
 IsNamedByRules rules (reason.Cut cut) = IsAskedBy rules cut.by (asking_of cut)
 IsNamedByRules rules reason.Runs = Unit {0}
 IsNamedByRules rules reason.Known = Unit {0}

@@ -22,7 +22,7 @@ pub enum Came {
     /// A maybe or an overflow.
     NoGraph {
         outcome: Outcome,
-        reason: Reason,
+        reason: Reason<Goal>,
     },
     /// A yes or a no whose graph is missing or was refused. No search comes to that.
     Unchecked(Outcome),
@@ -45,7 +45,7 @@ impl Came {
 }
 
 /// What the question came to where no graph comes with its outcome. The reason is told of one that is neither yes nor no.
-pub fn without_graph(outcome: Outcome, reason: Reason) -> Came
+pub fn without_graph(outcome: Outcome, reason: Reason<Goal>) -> Came
     ensures outcome { outcome_of result ≡ Ok outcome }
     ensures reason { IfSome (reason_of result) (λ told. told ≡ reason) }
     ensures no_graph { ShowsNoGraph outcome result }

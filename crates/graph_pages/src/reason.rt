@@ -16,7 +16,7 @@ pub(crate) fn write_reason<W: Write>(
     shown: Labelled<'_>,
     goal: Goal,
     outcome: Outcome,
-    reason: Reason,
+    reason: Reason<Goal>,
 ) -> io::Result<()> {
     let name = shown.name(goal);
     let words = match by_rules(shown.rules, reason) {
@@ -29,7 +29,7 @@ pub(crate) fn write_reason<W: Write>(
 }
 
 // The reason, if the question that it names is one of a rule, as it is in each search.
-fn by_rules(rules: &Rules, reason: Reason) -> Reason
+fn by_rules(rules: &Rules, reason: Reason<Goal>) -> Reason<Goal>
     ensures named { IsNamedByRules rules.now result }
     ensures same { IsNamedByRules rules.now reason → result ≡ reason }
 {
@@ -40,7 +40,7 @@ fn by_rules(rules: &Rules, reason: Reason) -> Reason
 }
 
 // Whether a rule of the goal that asked the question has it.
-fn is_asked_by(rules: &Rules, cut: Cut) -> bool
+fn is_asked_by(rules: &Rules, cut: Cut<Goal>) -> bool
     ensures { IsTrue result ↔ IsAskedBy rules.now cut.by (asking_of cut) }
 {
     let asking = Asking {
@@ -76,7 +76,7 @@ fn write_cut<W: Write>(
     shown: Labelled<'_>,
     name: &str,
     outcome: Outcome,
-    cut: Cut,
+    cut: Cut<Goal>,
 ) -> io::Result<()> {
     let letter = letter(cut.kind);
     let asked = shown.name(cut.asked);

@@ -82,8 +82,8 @@ module _ {C : Type 0} (says : Verdicts Outcome)
   right_under question told right = subst (λ cx. IsRightlyShown says (scripts cx) question told) same right
 
 -- the reason that is told is the one that was noted
-pub reason_told : (told : Option Reason) (came : Result (Answer Outcome) (Fault Goal Outcome)) (noted : Reason)
-    (run limited run_then limited_then : Bool) → IfSome told (λ reason. reason ≡ noted) →
+pub reason_told : (told : Option (Reason Goal)) (came : Result (Answer Outcome) (Fault Goal Outcome))
+    (noted : Reason Goal) (run limited run_then limited_then : Bool) → IfSome told (λ reason. reason ≡ noted) →
     IfOk came (λ answer. IsReason run limited answer.result noted) → run ≡ run_then → limited ≡ limited_then →
     IfSome told (λ reason. IfOk came (λ answer. IsReason run_then limited_then answer.result reason))
 reason_told None came noted run limited run_then limited_then is fits runs limits = tt
@@ -92,6 +92,7 @@ reason_told (Some reason) came noted run limited run_then limited_then is fits r
     (subst (λ l. IfOk came (λ answer. IsReason run_then l answer.result noted)) limits
     (subst (λ r. IfOk came (λ answer. IsReason r limited answer.result noted)) runs fits))
 
-pub none_told : (told : Option Reason) (noted : Reason) → told ≡ None → IfSome told (λ reason. reason ≡ noted)
+pub none_told : (told : Option (Reason Goal)) (noted : Reason Goal) → told ≡ None →
+    IfSome told (λ reason. reason ≡ noted)
 none_told None noted none = tt
 none_told (Some reason) noted none = absurd cc

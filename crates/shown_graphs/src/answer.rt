@@ -22,7 +22,7 @@ use watched_runs::{Progress, Reason, Watcher, Watching};
 pub(crate) fn ask<X, D, P>(
     alloc: Global,
     cache: &mut GlobalCache<Watching<X, D, P>>,
-    watcher: &mut Watcher<P>,
+    watcher: &mut Watcher<Goal, P>,
     depth: usize,
     goal: Goal,
 ) -> Came
@@ -49,11 +49,11 @@ where
 
 // Why a call came to neither yes nor no, if it did, as the watcher has it.
 fn reason_noted<P: Progress>(
-    watcher: &mut Watcher<P>,
+    watcher: &mut Watcher<Goal, P>,
     came: Result<Answer<Outcome>, Fault<Goal, Outcome>>,
     before: u64,
     is_limited: bool,
-) -> Reason
+) -> Reason<Goal>
     ensures reason { IfOk came (λ answer.
         IsReason (was_run before (inner_of watcher.old)) is_limited answer.result result) }
     ensures same { inner_of watcher.new ≡ inner_of watcher.old }
@@ -70,7 +70,7 @@ fn told<X, D, P>(
     cache: &GlobalCache<Watching<X, D, P>>,
     goal: Goal,
     came: Result<Answer<Outcome>, Fault<Goal, Outcome>>,
-    reason: Reason,
+    reason: Reason<Goal>,
 ) -> Came
 where
     X: Outcomes<Input = Goal>,
@@ -97,7 +97,7 @@ fn checked<X, D, P>(
     cache: &GlobalCache<Watching<X, D, P>>,
     goal: Goal,
     answer: Answer<Outcome>,
-    reason: Reason,
+    reason: Reason<Goal>,
 ) -> Result<Came, NoMemory>
 where
     X: Outcomes<Input = Goal>,

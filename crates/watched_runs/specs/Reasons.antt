@@ -22,7 +22,7 @@ is_limit cause.Known = false
 
 -- This may be told of a call that came to the outcome, where `is_run` says that it started a frame, and
 -- `is_limited` that it met a limit.
-abbrev pub IsReason : Bool → Bool → Outcome → Reason → Type 0
+abbrev pub IsReason : {I : Type 0} → Bool → Bool → Outcome → Reason I → Type 0
 IsReason is_run is_limited outcome Known = is_run ≡ false
 IsReason is_run is_limited outcome Runs = (is_run ≡ true) × (is_limited ≡ true) × (outcome ≡ Overflow)
 IsReason is_run is_limited outcome (Cut cut) =

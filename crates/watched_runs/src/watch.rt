@@ -2,22 +2,22 @@
 //!
 //! A watcher stands beside the builder that counts frames. It sees what each frame is told and what it asks for, and lets a
 //! search use its cache in full.
-ghost use Rattle.std.specs.Prelude.{◌≡◌};
+ghost use Rattle.std.specs.Prelude.{◌≡◌, Bool, true};
 
 mod run;
 
 use crate::progress::Progress;
 use delegate_parts::{Builder, Outcome};
-use rule_tables::Goal;
 use run::Question;
 pub(crate) use run::RunWatch;
 use search_context::context::{NoMemory, Reply, Request};
 use search_context::path::PathKind;
 use std::alloc::Global;
 use std::collections::HashMap;
+use std::hash::Hash;
 
 /// Why a question was answered neither yes nor no.
-#[derive(Clone, Copy)]
+#[derive(Clone, Copy, Debug, PartialEq, Eq)]
 pub enum Cause {
     /// The goal that asks it had no depth left. Where some goal had its most runs before, it may be the asked one, whose
     /// result was stored.
@@ -57,31 +57,31 @@ impl Cause {
 
 /// A question that was answered neither yes nor no, without a question below it that was.
 #[derive(Clone, Copy)]
-pub struct Cut {
+pub struct Cut<I> {
     /// The goal that asked it.
-    pub by: Goal,
+    pub by: I,
     pub kind: PathKind,
-    pub asked: Goal,
+    pub asked: I,
     pub cause: Cause,
 }
 
 /// Why the goal that was asked from outside came to neither yes nor no.
 #[derive(Clone, Copy)]
-pub enum Reason {
+pub enum Reason<I> {
     /// A question was cut off.
-    Cut(Cut),
+    Cut(Cut<I>),
     /// It had its most runs itself.
     Runs,
     /// It was worked out before.
     Known,
-    /// None was noted. No search over a table comes to that.
+    /// None was noted. No search over goals with candidates comes to that.
     Unnoted,
 }
 
 // A goal under evaluation, and the kind of the step by which it was asked.
 #[derive(Clone, Copy)]
-struct Level {
-    goal: Goal,
+struct Level<I> {
+    goal: I,
     kind: PathKind,
 }
 
@@ -90,30 +90,34 @@ const RUNS_A_NOTE: u64 = 1024;
 
 /// Counts frames, and notes why goals come to neither yes nor no. One watcher is for all questions over one cache.
 #[derive(Drop)]
-pub struct Watcher<P> {
+pub struct Watcher<I: Eq + Hash, P> {
     pub(crate) inner: Builder,
     progress: P,
     /// How many questions began before this one.
     done: usize,
     /// The goals under evaluation.
-    open: Vec<Level>,
+    open: Vec<Level<I>>,
     /// The kind of the step of the frame that starts next.
     next: PathKind,
     /// Why the run that ended last came to neither yes nor no.
-    last: Option<Cut>,
+    last: Option<Cut<I>>,
     /// Where the goals that came to maybe were cut off first, each in the last run of it that did.
-    noted: HashMap<Goal, Cut>,
+    noted: HashMap<I, Cut<I>>,
     /// Some goal had its most runs.
     had_most_runs: bool,
 }
 
-impl<P: Progress> Watcher<P> {
-    ghost use Rattle.delegate_parts.specs.Builder.{started_in};
+impl<I: Eq + Hash + Copy, P: Progress> Watcher<I, P> {
+    ghost use Rattle.delegate_parts.specs.Builder.{is_noop_of, started_in};
+    ghost use Rattle.delegate_parts.specs.declared.outcome.Outcome.{Outcome as SpecOutcome};
     ghost use Rattle.watched_runs.specs.Reasons.{IsReason, was_run};
     ghost use Rattle.watched_runs.specs.Watch.{inner_of};
 
     /// A watcher that has seen nothing.
-    pub fn new(alloc: Global, progress: P) -> Watcher<P> {
+    pub fn new(alloc: Global, progress: P) -> Watcher<I, P>
+        ensures noop { is_noop_of (inner_of result) ≡ true }
+        ensures started { started_in (inner_of result) ≡ 0 }
+    {
         Watcher {
             inner: Builder::new(true),
             progress,
@@ -144,7 +148,7 @@ impl<P: Progress> Watcher<P> {
 
     /// Why the question came to this outcome, if that is neither yes nor no. So many frames had started before it, and its call
     /// met a limit or not.
-    pub fn reason(&mut self, outcome: Outcome, before: u64, is_limited: bool) -> Reason
+    pub fn reason(&mut self, outcome: Outcome, before: u64, is_limited: bool) -> Reason<I>
         ensures reason { IsReason (was_run before (inner_of self.old)) is_limited outcome result }
         ensures same { inner_of self.new ≡ inner_of self.old }
     {
@@ -163,7 +167,7 @@ impl<P: Progress> Watcher<P> {
 
     /// Where the goal was cut off first that came to neither yes nor no for this reason, if that was seen: for this question or
     /// for an earlier one.
-    pub fn first_cause(&self, goal: Goal, reason: Reason) -> Option<Cause> {
+    pub fn first_cause(&self, goal: I, reason: Reason<I>) -> Option<Cause> {
         match reason {
             Reason::Runs => Some(Cause::Runs),
             Reason::Cut(cut) => Some(self.first_cut(cut).cause),
@@ -174,8 +178,29 @@ impl<P: Progress> Watcher<P> {
         }
     }
 
+    /// The reason, by the question where the goal was cut off first, for this question or for an earlier one, if that was seen. It
+    /// is no limit that the call did not meet.
+    pub fn first_reason(&self, reason: Reason<I>, is_limited: bool) -> Reason<I>
+        ensures { (is_run : Bool) (outcome : SpecOutcome) → IsReason is_run is_limited outcome reason →
+            IsReason is_run is_limited outcome result }
+    {
+        match reason {
+            Reason::Cut(cut) => {
+                let first = self.first_cut(cut);
+                if is_limited || !first.cause.is_limit() {
+                    Reason::Cut(first)
+                } else {
+                    Reason::Cut(cut)
+                }
+            }
+            Reason::Runs => Reason::Runs,
+            Reason::Known => Reason::Known,
+            Reason::Unnoted => Reason::Unnoted,
+        }
+    }
+
     // Where a goal was cut off first that was cut off here: a result that was known hands on what was met before.
-    fn first_cut(&self, cut: Cut) -> Cut {
+    fn first_cut(&self, cut: Cut<I>) -> Cut<I> {
         if cut.cause.is_first() {
             return cut;
         }
@@ -183,7 +208,7 @@ impl<P: Progress> Watcher<P> {
     }
 
     /// Notes that a run of the goal begins.
-    pub(crate) fn note_start(&mut self, goal: Goal) -> Result<RunWatch, NoMemory>
+    pub(crate) fn note_start(&mut self, goal: I) -> Result<RunWatch<I>, NoMemory>
         ensures { inner_of self.new ≡ inner_of self.old }
     {
         self.open.push(Level {
@@ -203,7 +228,7 @@ impl<P: Progress> Watcher<P> {
     }
 
     /// Notes what the run is told.
-    pub(crate) fn note_reply(&mut self, run: RunWatch, reply: Reply<Outcome>) -> RunWatch
+    pub(crate) fn note_reply(&mut self, run: RunWatch<I>, reply: Reply<Outcome>) -> RunWatch<I>
         ensures { inner_of self.new ≡ inner_of self.old }
     {
         match (run.question, reply) {
@@ -221,9 +246,9 @@ impl<P: Progress> Watcher<P> {
     /// Notes what the run asks for.
     pub(crate) fn note_request(
         &mut self,
-        run: RunWatch,
-        request: Request<Goal, Outcome>,
-    ) -> Result<RunWatch, NoMemory>
+        run: RunWatch<I>,
+        request: Request<I, Outcome>,
+    ) -> Result<RunWatch<I>, NoMemory>
         ensures { inner_of self.new ≡ inner_of self.old }
     {
         let run = match request {
@@ -239,23 +264,32 @@ impl<P: Progress> Watcher<P> {
             Request::FinishCandidate => run.finishing(),
             Request::Ignore(_) => run,
             Request::Done(_) => {
-                // Where the goal is run again, it is by the same step.
-                if let Some(level) = self.open.pop() {
-                    self.next = level.kind;
-                }
-                self.last = run.cut;
-                if let Some(cut) = run.cut {
-                    let first = self.first_cut(cut);
-                    self.noted.insert(run.goal, first)?;
-                }
+                self.note_end(&run)?;
                 run
             }
         };
         Ok(run)
     }
 
+    // Notes that the run is done.
+    fn note_end(&mut self, run: &RunWatch<I>) -> Result<(), NoMemory>
+        ensures { inner_of self.new ≡ inner_of self.old }
+    {
+        // Where the goal is run again, it is by the same step.
+        if let Some(level) = self.open.pop() {
+            self.next = level.kind;
+        }
+        let RunWatch { goal, cut, .. } = *run;
+        self.last = cut;
+        if let Some(cut) = cut {
+            let first = self.first_cut(cut);
+            self.noted.insert(goal, first)?;
+        }
+        Ok(())
+    }
+
     // Why the question has this answer, which is neither yes nor no.
-    fn cut_of(&mut self, by: Goal, question: Question, outcome: Outcome) -> Cut
+    fn cut_of(&mut self, by: I, question: Question<I>, outcome: Outcome) -> Cut<I>
         ensures { inner_of self.new ≡ inner_of self.old }
     {
         let was_run = self.inner.started() != question.started;
@@ -285,7 +319,7 @@ impl<P: Progress> Watcher<P> {
     }
 
     // The kind of the cycle that the question closes, if its goal is under evaluation.
-    fn cycle_kind(&self, question: Question) -> Option<PathKind> {
+    fn cycle_kind(&self, question: Question<I>) -> Option<PathKind> {
         let mut kind = question.kind;
         for level in self.open.iter().rev() {
             if level.goal == question.goal {

@@ -5,8 +5,7 @@ ghost use Rattle.watched_runs.specs.Watch.{inner_of};
 
 use crate::progress::Progress;
 use crate::watch::{RunWatch, Watcher};
-use delegate_parts::Builder;
-use rule_tables::{Goal, Outcome};
+use delegate_parts::{Builder, Outcome};
 use search_context::context::{Cx, Delegate, NoMemory, Reply, Request};
 use search_context::path::PathKind;
 use std::marker::PhantomData;
@@ -21,14 +20,14 @@ pub struct Watching<X, D, P> {
 
 /// A frame, with what is watched of its run.
 #[derive(Drop)]
-pub struct WatchedFrame<F> {
+pub struct WatchedFrame<F, I> {
     frame: F,
-    run: RunWatch,
+    run: RunWatch<I>,
 }
 
 impl<X, D, P> Delegate for Watching<X, D, P>
 where
-    X: Cx<Input = Goal, Result = Outcome>,
+    X: Cx<Result = Outcome>,
     D: Delegate<Cx = X, ProofTreeBuilder = Builder>,
     P: Progress,
 {
@@ -36,9 +35,9 @@ where
 
     type ValidationScope = D::ValidationScope;
 
-    type ProofTreeBuilder = Watcher<P>;
+    type ProofTreeBuilder = Watcher<X::Input, P>;
 
-    type Frame = WatchedFrame<D::Frame>;
+    type Frame = WatchedFrame<D::Frame, X::Input>;
 
     const ENABLE_PROVISIONAL_CACHE: bool = D::ENABLE_PROVISIONAL_CACHE;
 
@@ -100,15 +99,15 @@ where
 
     ghost divides = { D.divides };
 
-    fn enter_validation_scope(cx: X, input: Goal) -> Option<D::ValidationScope> {
+    fn enter_validation_scope(cx: X, input: X::Input) -> Option<D::ValidationScope> {
         D::enter_validation_scope(cx, input)
     }
 
-    fn inspect_is_noop(inspect: &mut Watcher<P>) -> bool {
+    fn inspect_is_noop(inspect: &mut Watcher<X::Input, P>) -> bool {
         D::inspect_is_noop(&mut inspect.inner)
     }
 
-    fn initial_provisional_result(cx: X, kind: PathKind, input: Goal) -> Outcome {
+    fn initial_provisional_result(cx: X, kind: PathKind, input: X::Input) -> Outcome {
         D::initial_provisional_result(cx, kind, input)
     }
 
@@ -116,11 +115,11 @@ where
         D::is_initial_provisional_result(outcome)
     }
 
-    fn stack_overflow_result(cx: X, input: Goal) -> Outcome {
+    fn stack_overflow_result(cx: X, input: X::Input) -> Outcome {
         D::stack_overflow_result(cx, input)
     }
 
-    fn fixpoint_overflow_result(cx: X, input: Goal) -> Outcome {
+    fn fixpoint_overflow_result(cx: X, input: X::Input) -> Outcome {
         D::fixpoint_overflow_result(cx, input)
     }
 
@@ -130,7 +129,7 @@ where
 
     fn propagate_ambiguity(
         cx: X,
-        for_input: Goal,
+        for_input: X::Input,
         ambiguity_info: <X as Cx>::AmbiguityInfo,
     ) -> Outcome {
         D::propagate_ambiguity(cx, for_input, ambiguity_info)
@@ -138,19 +137,19 @@ where
 
     fn start(
         cx: X,
-        input: Goal,
-        inspect: &mut Watcher<P>,
-    ) -> Result<WatchedFrame<D::Frame>, NoMemory> {
+        input: X::Input,
+        inspect: &mut Watcher<X::Input, P>,
+    ) -> Result<WatchedFrame<D::Frame, X::Input>, NoMemory> {
         let frame = D::start(cx, input, &mut inspect.inner)?;
         let run = inspect.note_start(input)?;
         Ok(WatchedFrame { frame, run })
     }
 
     fn step(
-        frame: &mut WatchedFrame<D::Frame>,
+        frame: &mut WatchedFrame<D::Frame, X::Input>,
         reply: Reply<Outcome>,
-        inspect: &mut Watcher<P>,
-    ) -> Result<Request<Goal, Outcome>, NoMemory>
+        inspect: &mut Watcher<X::Input, P>,
+    ) -> Result<Request<X::Input, Outcome>, NoMemory>
         requires can { CanTake (λ watched. D.stands watched.frame) D.script frame.old reply }
         ensures request { IfOk result (λ request.
             Steps (λ watched. D.stands watched.frame) D.script frame.old reply request frame.new) }
@@ -164,16 +163,16 @@ where
         Ok(request)
     }
 
-    fn start_replay(cx: X, input: Goal) -> Option<WatchedFrame<D::Frame>> {
+    fn start_replay(cx: X, input: X::Input) -> Option<WatchedFrame<D::Frame, X::Input>> {
         let frame = D::start_replay(cx, input)?;
         let run = RunWatch::new(input);
         Some(WatchedFrame { frame, run })
     }
 
     fn step_replay(
-        frame: &mut WatchedFrame<D::Frame>,
+        frame: &mut WatchedFrame<D::Frame, X::Input>,
         reply: Reply<Outcome>,
-    ) -> Result<Request<Goal, Outcome>, NoMemory>
+    ) -> Result<Request<X::Input, Outcome>, NoMemory>
         requires can { CanTake (λ watched. D.stands watched.frame) D.script frame.old reply }
         ensures request { IfOk result (λ request.
             Steps (λ watched. D.stands watched.frame) D.script frame.old reply request frame.new) }

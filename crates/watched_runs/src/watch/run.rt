@@ -1,14 +1,13 @@
 //! What is watched of one run.
 
 use crate::watch::Cut;
-use rule_tables::Goal;
 use search_context::path::PathKind;
 
 /// A question that waits for its answer.
 #[derive(Clone, Copy)]
-pub(super) struct Question {
+pub(super) struct Question<I> {
     pub(super) kind: PathKind,
-    pub(super) goal: Goal,
+    pub(super) goal: I,
     /// How many frames had started when it was asked.
     pub(super) started: u64,
 }
@@ -16,20 +15,20 @@ pub(super) struct Question {
 /// A run, as far as it has gone: why it comes to neither yes nor no, if it does. A run does so where one of its candidates
 /// has an answer that is neither, and none that is no.
 #[derive(Clone, Copy)]
-pub(crate) struct RunWatch {
-    pub(super) goal: Goal,
+pub(crate) struct RunWatch<I> {
+    pub(super) goal: I,
     /// The question that was asked last.
-    pub(super) question: Option<Question>,
+    pub(super) question: Option<Question<I>>,
     /// An answer of the open candidate was no.
     fails: bool,
     /// Why the open candidate neither holds nor fails.
-    in_candidate: Option<Cut>,
+    in_candidate: Option<Cut<I>>,
     /// Why a finished one does not.
-    pub(super) cut: Option<Cut>,
+    pub(super) cut: Option<Cut<I>>,
 }
 
-impl RunWatch {
-    pub(crate) fn new(goal: Goal) -> RunWatch {
+impl<I: Copy> RunWatch<I> {
+    pub(crate) fn new(goal: I) -> RunWatch<I> {
         RunWatch {
             goal,
             question: None,
@@ -39,7 +38,7 @@ impl RunWatch {
         }
     }
 
-    pub(super) fn asking(self, question: Question) -> RunWatch {
+    pub(super) fn asking(self, question: Question<I>) -> RunWatch<I> {
         RunWatch {
             question: Some(question),
             ..self
@@ -47,7 +46,7 @@ impl RunWatch {
     }
 
     /// A candidate begins.
-    pub(super) fn entering(self) -> RunWatch {
+    pub(super) fn entering(self) -> RunWatch<I> {
         RunWatch {
             fails: false,
             in_candidate: None,
@@ -56,7 +55,7 @@ impl RunWatch {
     }
 
     /// A question of the open candidate was answered no.
-    pub(super) fn failing(self) -> RunWatch {
+    pub(super) fn failing(self) -> RunWatch<I> {
         RunWatch {
             fails: true,
             ..self
@@ -64,7 +63,7 @@ impl RunWatch {
     }
 
     /// One was answered neither yes nor no.
-    pub(super) fn cut_off(self, cut: Cut) -> RunWatch {
+    pub(super) fn cut_off(self, cut: Cut<I>) -> RunWatch<I> {
         RunWatch {
             in_candidate: Some(first_of(self.in_candidate, cut)),
             ..self
@@ -72,19 +71,29 @@ impl RunWatch {
     }
 
     /// The open candidate is finished.
-    pub(super) fn finishing(self) -> RunWatch {
-        match self.in_candidate {
-            Some(cut) if !self.fails => RunWatch {
-                cut: Some(first_of(self.cut, cut)),
-                ..self
-            },
-            _ => self,
+    pub(super) fn finishing(self) -> RunWatch<I> {
+        RunWatch {
+            in_candidate: None,
+            cut: finished(self.cut, self.fails, self.in_candidate),
+            ..self
         }
     }
 }
 
+// Why a finished candidate does not hold, after one more is finished, which fails or was cut off here.
+fn finished<I: Copy>(
+    cut: Option<Cut<I>>,
+    fails: bool,
+    in_candidate: Option<Cut<I>>,
+) -> Option<Cut<I>> {
+    match in_candidate {
+        Some(other) if !fails => Some(first_of(cut, other)),
+        _ => cut,
+    }
+}
+
 // The earlier one, unless only the later one says where questions were cut off first.
-fn first_of(earlier: Option<Cut>, later: Cut) -> Cut {
+fn first_of<I: Copy>(earlier: Option<Cut<I>>, later: Cut<I>) -> Cut<I> {
     match earlier {
         Some(cut) if cut.cause.is_first() || !later.cause.is_first() => cut,
         _ => later,
