@@ -15,6 +15,12 @@ use search_context::context::NoMemory;
 use search_context::path::PathKind;
 use std::alloc::Global;
 
+/// As many rows as a small table needs, whose lists then do not grow from one row to two, four and eight.
+const FEW: usize = 16;
+
+/// The bytes of a short name and its newline.
+const SHORT: usize = 8;
+
 /// The rows of a table, and the names of its goals.
 #[derive(Drop)]
 pub struct TableRows {
@@ -51,9 +57,9 @@ impl TableRows {
         if rules.count() >= NOT_KNOWN as usize {
             return Err(NoMemory);
         }
-        let mut goals = Vec::new(alloc);
-        let mut candidates = Vec::new(alloc);
-        let mut questions = Vec::new(alloc);
+        let mut goals = Vec::with_capacity(alloc, rules.count())?;
+        let mut candidates = Vec::with_capacity(alloc, FEW)?;
+        let mut questions = Vec::with_capacity(alloc, FEW)?;
         for number in 0..rules.count() {
             if let Some(goal) = rules.goal_at(number) {
                 let all = rules.candidates(goal);
@@ -138,7 +144,7 @@ fn put<T: Copy>(out: &mut [T], all: &[T])
 fn names_of(alloc: Global, rules: &Rules) -> Result<Vec<u8>, NoMemory>
     ensures { IfOk result (λ names. names.items ≡ names_text (names_of rules.now)) }
 {
-    let mut names = Vec::new(alloc);
+    let mut names = Vec::with_capacity(alloc, rules.count().saturating_mul(SHORT))?;
     for number in 0..rules.count() {
         if let Some(goal) = rules.goal_at(number) {
             names.extend_from_slice(rules.name(goal).unwrap_or(b""))?;

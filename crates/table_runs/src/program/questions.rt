@@ -25,8 +25,8 @@ use std::io::Write;
 /// wait for each other.
 const ENOUGH: usize = 8000;
 
-/// Room for these and one line more.
-const ROOM: usize = 8192;
+/// Room for the lines of a small table. It grows where more bytes wait.
+const ROOM: usize = 512;
 
 /// What is checked of the answers.
 #[derive(Clone, Copy)]
