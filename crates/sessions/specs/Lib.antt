@@ -3,3 +3,4 @@ pub mod Rules
 pub mod Shown
 pub mod Questions
 pub mod Known
+pub mod Causes

@@ -9,17 +9,21 @@
 //! | `Rules` | what rows say of goals, and when an answer is right by them |
 //! | `Questions` | what a question comes to: what the search promises of the call |
 //! | `Shown` | what the words of a graph show |
+//! | `Causes` | why a goal is neither yes nor no |
 //! | `Known` | the rules and the nodes of a session, and which goals are wanted |
 #![tactic(auto)]
 
 mod asking;
+mod causes;
 mod graphs;
 mod session;
 
 pub use asking::Asked;
+pub use causes::Caused;
 pub use delegate_parts::Outcome;
 pub use rule_arrays::{
     Arrays, ArraysDelegate, CandidateRow, GoalRow, LendsArrays, NOT_KNOWN, QuestionRow, RulesIn,
 };
 pub use search_context::context::{Fault, NoMemory, NodeId, Verdict};
 pub use session::Session;
+pub use watched_runs::{Cause, Cut, Reason};

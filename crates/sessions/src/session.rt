@@ -3,12 +3,14 @@ ghost use Rattle.std.specs.Prelude.{◌≡◌, ◌↔◌, ◌^◌, ℕ, List, []
 ghost use Rattle.std.specs.List.{range_with_len};
 ghost use Rattle.std.specs.Option.{IsSomeAnd};
 ghost use Rattle.sessions.specs.Below.{GraphNode, HasGraph, IsProofGraph, IsRefutationGraph, IsWhole, KeepsNodes, No, NodeId as SpecNodeId, Outcome as SpecOutcome, Yes, is_held, outcome_verdicts};
+ghost use Rattle.sessions.specs.Causes.{HasReason, IsRightOutcome, IsToldAnew};
 ghost use Rattle.sessions.specs.Known.{has_result, is_wanted, nodes_of, rules_of};
 ghost use Rattle.sessions.specs.Questions.{IsAsked};
 ghost use Rattle.sessions.specs.Rules.{IsRightAnswer, is_row_unknown, proves, refutes, scripts_of};
 ghost use Rattle.sessions.specs.Shown.{AreValidFor, AreWordsFrom};
 
 use crate::asking::{Asked, ask};
+use crate::causes::{Caused, ask_watched, with_reason};
 use crate::graphs::{graph_words, is_shown};
 use candidate_lists::{AnyOf, CandidatesContext, ContextOf};
 use delegate_parts::Outcome;
@@ -17,6 +19,7 @@ use search_graph::graph::SearchGraph;
 use search_parts::context::{Cx, Delegate, Fault, NoMemory, NodeId, Verdict};
 use search_parts::global_cache::GlobalCache;
 use std::alloc::Global;
+use watched_runs::{NoProgress, Watching};
 
 /// What is known of the goals of the rules that an `L` lends, as `Arrays` does: what one question finds out is used in the
 /// next ones. The rows must not change while it lives.
@@ -41,6 +44,18 @@ impl<L: LendsArrays> Session<L> {
             graph: SearchGraph::new(alloc, 0),
             last_fault: None,
         }
+    }
+
+    /// Makes the session as good as a new one over these rows, with the memory of the old one: nothing is known yet. It takes
+    /// no memory.
+    pub fn renew(&mut self, lender: L)
+        ensures same_rules { rules_of L.table_of self.new ≡ L.table_of lender }
+        ensures no_nodes { nodes_of self.new ≡ [] }
+        ensures no_results { self.new.cache.results ≡ [] }
+        ensures no_fault { self.new.last_fault ≡ None }
+    {
+        self.cache.renew(ContextOf(AnyOf(RulesIn { lender })));
+        self.last_fault = None;
     }
 
     /// What lends its rows.
@@ -86,6 +101,33 @@ impl<L: LendsArrays> Session<L> {
             self.last_fault = Some(fault);
         }
         came
+    }
+
+    /// Why the goal is neither yes nor no, if it is neither: it is asked at this depth over a cache of its own, and watched. So
+    /// nothing is stored, and the time is that of a question of which nothing is known yet.
+    ///
+    /// The same faults as of `ask`; they are not remembered.
+    pub fn cause(&self, depth: usize, goal: u32) -> Result<Caused, Fault<u32, Outcome>>
+        // A yes or a no is right by the rows alone, and of all else there is a reason that fits.
+        ensures right { IfOk result (λ caused. IsRightOutcome (rules_of L.table_of self.now) goal caused.outcome) }
+        ensures reason { IfOk result (HasReason (rules_of L.table_of self.now)) }
+
+        // What else the search promises of a question where nothing is known.
+        ensures told { IsToldAnew ⟦<Watching<CandidatesContext<RulesIn<L>>, ArraysDelegate<L>, NoProgress> as Delegate>⟧
+            ⟦<CandidatesContext<RulesIn<L>> as Cx>⟧ ⟦<u32 as PartialEq>⟧.eq ⟦<Outcome as PartialEq>⟧.eq
+            self.now.cache.cx depth goal result }
+    {
+        let cx = self.cache.cx();
+        let came = ask_watched::<CandidatesContext<RulesIn<L>>, ArraysDelegate<L>>(
+            self.cache.allocator(),
+            cx,
+            depth,
+            goal,
+        );
+        match came {
+            Ok(watched) => Ok(with_reason(cx.0.0, watched)),
+            Err(fault) => Err(fault),
+        }
     }
 
     /// The words of the node's graph, as the crate `graph_words` says. `Ok(None)` where there is no such node, or not all that
@@ -182,7 +224,7 @@ impl<L: LendsArrays> Session<L> {
 }
 
 // Whether the row's goal is not known.
-fn is_unknown(row: GoalRow) -> bool
+pub(crate) fn is_unknown(row: GoalRow) -> bool
     ensures { result ≡ is_row_unknown row }
 {
     row.count == NOT_KNOWN
