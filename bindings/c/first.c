@@ -1,4 +1,5 @@
-/* Which of two goals holds that ask each other? Prints `A holds, after 2 runs`. */
+/* Which of two goals holds that ask each other? Prints `A holds, after 2 runs`. At the top, after ./library:
+   cc -I out -o first bindings/c/first.c out/libmirfodwel.a && ./first */
 #include "mirfodwel.h"
 #include <stdio.h>
 

@@ -27,7 +27,8 @@
  * OWNERSHIP. All arrays and buffers are yours before, in and after a call. A session owns what it has allocated, and
  * mirfodwel_close gives all of it back. Nothing else is held from one call to the next. Texts and names are read in the
  * call alone. But a session reads the rows that it was opened over in each call: from mirfodwel_open to mirfodwel_close they have to
- * stay where and as they are. To change rules or to add some, close, change the rows and open again.
+ * stay where and as they are. To change rules or to add some, give the session its rows anew by mirfodwel_reopen, which does not
+ * read those so far: they may be changed, or be gone, before that call, if no other one comes between.
  *
  * THREADS. A session is one thread's at a time; another thread may go on with it behind a lock, a start or a join. All else may run
  * side by side: calls on texts, and sessions that are not the same, also over the same rows, which they only read. Call nothing
@@ -196,17 +197,28 @@ typedef struct {
 /* The answer to a question. With the status FAULT only `fault` tells something. */
 typedef struct {
     uint64_t started;  /* how many runs of goals were started; 0 where a stored result answers */
-    size_t node;       /* where `has_graph`: by which mirfodwel_graph finds the graph, until the session is closed */
+    size_t node;       /* where `has_graph`: by which mirfodwel_graph finds the graph, until the session is closed or opened again */
     uint8_t outcome;   /* MIRFODWEL_YES, MIRFODWEL_NO, MIRFODWEL_MAYBE or MIRFODWEL_OVERFLOW */
     uint8_t fault;     /* MIRFODWEL_NO_FAULT, or with the status FAULT the fault */
     bool has_graph;    /* whether there is a node; each yes and each no has one */
     bool limits_met;   /* whether the depth or the number of runs was too small for some goal in this question */
 } mirfodwel_answer;
 
-/* Opens the session over these rows, which have to stay as they are until it is closed. Nothing is copied.
+/* Opens the session over these rows, which have to stay as they are until it is closed or opened again. Nothing is copied.
    DONE. WRONG_STATE: it is open already. BAD_INPUT: `fault` is the first row that is not in order: a range that leads past the end of the
    next array, an `is_marked` above 1, a `kind` above 3, or a goal that there is not. NO_MEMORY. */
 mirfodwel_status mirfodwel_open(mirfodwel_session *session,
+    const mirfodwel_goal *goals, size_t goals_length,
+    const mirfodwel_candidate *candidates, size_t candidates_length,
+    const mirfodwel_question *questions, size_t questions_length,
+    mirfodwel_row_fault *fault);
+
+/* Opens a session that is open again, over these rows, as if it were closed and then opened: nothing is known of their goals, and
+   nodes of earlier answers mean nothing any more. But it keeps its memory, and works out many small tables in less time than
+   new sessions do. What a much larger table has left is given back on the way. No memory is taken.
+   DONE. WRONG_STATE: it is not open. BAD_INPUT: `fault` is the first row that is not in order, and the session is still open over the
+   rows so far, with all that it had worked out; where these were changed or are gone, only close it or open it again. */
+mirfodwel_status mirfodwel_reopen(mirfodwel_session *session,
     const mirfodwel_goal *goals, size_t goals_length,
     const mirfodwel_candidate *candidates, size_t candidates_length,
     const mirfodwel_question *questions, size_t questions_length,
@@ -237,16 +249,45 @@ mirfodwel_status mirfodwel_check_graph(mirfodwel_session *session, uint32_t goal
     const uint64_t *words, size_t words_length, bool *is_valid);
 
 /* Writes which goals that are not known were asked for: just those of which a result is stored, in rising order. Where rules are worked
-   out on the way, make these known, in rows behind the others, and ask again in a new session, until none is wanted.
+   out on the way, make these known, in rows behind the others, open the session again over all, and ask again, until none is wanted.
    `used` and `room` count goals. DONE. NO_ROOM. WRONG_STATE: it is not open. NO_MEMORY. */
 mirfodwel_status mirfodwel_wanted(mirfodwel_session *session, uint32_t *out, size_t room, size_t *used);
 
 /* Writes why the goal holds or not, as mirfodwel_explain does for a text with this one question. The goal is asked anew, and the session
-   stores nothing of that. A goal is called by its line of `names`, as mirfodwel_read writes them, or by its number, where it has no line.
-   Data can be checked where the names are different, and such as a table may have.
+   stores nothing of that. A goal is called by its line of `names`, as mirfodwel_read writes them, or by its number, where that is empty or
+   there is none; but as data always by its number, and mirfodwel_check reads it.
    DONE. FAULT: `out` tells it. NO_ROOM. WRONG_STATE: it is not open. UNKNOWN: no such form or goal. NO_MEMORY. */
 mirfodwel_status mirfodwel_explain_goal(mirfodwel_session *session, uint8_t form, size_t depth, uint32_t goal,
     const uint8_t *names, size_t names_length, uint8_t *out, size_t room, size_t *used);
+
+/* Why a goal is neither yes nor no: where it was cut off first. */
+#define MIRFODWEL_NO_CAUSE 0         /* it is yes or no */
+#define MIRFODWEL_NO_DEPTH 1         /* `by` had no depth left for the question */
+#define MIRFODWEL_NO_DEPTH_OR_RUNS 2 /* that, or `asked` had its most runs before */
+#define MIRFODWEL_MOST_RUNS 3        /* `asked` had its most runs, or the goal itself, where no question is named */
+#define MIRFODWEL_UNKNOWN_CYCLE 4    /* the question closed a cycle of unknown kind */
+#define MIRFODWEL_FORCED_CYCLE 5     /* the question closed a cycle of forced ambiguity */
+#define MIRFODWEL_BY_NOT_KNOWN 6     /* the candidates of `by` are not known, so that no depth would help */
+#define MIRFODWEL_WAS_MAYBE 7        /* `asked` came to maybe before, and more was not noted */
+#define MIRFODWEL_NOT_NOTED 8        /* nothing was noted */
+
+/* What a goal came to, and why. With the status FAULT only `fault` tells something. */
+typedef struct {
+    uint64_t started;  /* how many runs of goals were started */
+    uint32_t by;       /* where `has_question`: the goal that asked the question */
+    uint32_t asked;    /* which goal that is about */
+    uint8_t step;      /* and by a step of which kind; `by` has a candidate with this question */
+    bool has_question; /* whether a question is named */
+    uint8_t kind;      /* MIRFODWEL_NO_CAUSE, or why it is neither yes nor no */
+    uint8_t outcome;   /* as of mirfodwel_answer */
+    uint8_t fault;     /* as there */
+    bool limits_met;   /* as there */
+} mirfodwel_reason;
+
+/* Says why the goal is neither yes nor no. It is asked anew, as by mirfodwel_explain_goal, and the session stores nothing of that. What
+   mirfodwel_ask answers rests also on what is stored, and where that is of questions with less depth it may be less.
+   DONE: `reason` has it. FAULT: `reason` has the fault. WRONG_STATE: it is not open. UNKNOWN: there is no such goal. */
+mirfodwel_status mirfodwel_cause(mirfodwel_session *session, size_t depth, uint32_t goal, mirfodwel_reason *reason);
 
 /* Writes in words which fault a question of this session met last, or no byte where none did.
    DONE. NO_ROOM. WRONG_STATE: it is not open. NO_MEMORY. */
@@ -278,6 +319,7 @@ MIRFODWEL_HAS(sizeof(mirfodwel_sizes) == 32);
 MIRFODWEL_HAS(sizeof(mirfodwel_session) == 16 && offsetof(mirfodwel_session, inside) == 8);
 MIRFODWEL_HAS(sizeof(mirfodwel_row_fault) == 16 && offsetof(mirfodwel_row_fault, place) == 8);
 MIRFODWEL_HAS(sizeof(mirfodwel_answer) == 24 && offsetof(mirfodwel_answer, outcome) == 16);
+MIRFODWEL_HAS(sizeof(mirfodwel_reason) == 24 && offsetof(mirfodwel_reason, step) == 16);
 #undef MIRFODWEL_HAS
 #endif
 

@@ -251,11 +251,38 @@ SOME mirfodwel_status open_over(mirfodwel_session *session, const struct rows *r
         rows->sizes.questions, fault);
 }
 
+SOME mirfodwel_status reopen_over(mirfodwel_session *session, const struct rows *rows, mirfodwel_row_fault *fault) {
+    return mirfodwel_reopen(session, rows->goals, rows->sizes.goals, rows->candidates, rows->sizes.candidates, rows->questions,
+        rows->sizes.questions, fault);
+}
+
 SOME bool is_all_zero(const mirfodwel_session *session) {
     return !session->is_open && !session->inside;
 }
 
 SOME const char *const outcome_words[] = {"yes", "no", "maybe", "overflow"};
+
+/* Whether a reason fits what its goal came to, and the rows: the question that is named is one of a candidate of the goal beside it. */
+SOME bool has_reason(const struct rows *rows, const mirfodwel_reason *it) {
+    if (it->fault || it->outcome > 3 || (it->outcome < 2) != (it->kind == MIRFODWEL_NO_CAUSE) || it->kind > MIRFODWEL_WAS_MAYBE)
+        return false;
+    if (!it->has_question)
+        return it->kind == MIRFODWEL_NO_CAUSE || (it->kind == MIRFODWEL_MOST_RUNS && it->outcome == MIRFODWEL_OVERFLOW);
+    if (it->outcome != MIRFODWEL_MAYBE || it->by >= rows->sizes.goals)
+        return false;
+    mirfodwel_goal goal = rows->goals[it->by];
+    if (goal.count == MIRFODWEL_NOT_KNOWN)
+        return it->kind == MIRFODWEL_BY_NOT_KNOWN && it->asked == it->by && it->step == MIRFODWEL_FORCED_AMBIGUITY;
+    for (size_t place = 0; place < goal.count; place++) {
+        mirfodwel_candidate candidate = rows->candidates[goal.first + place];
+        for (size_t at = 0; at < candidate.count; at++) {
+            mirfodwel_question question = rows->questions[candidate.first + at];
+            if (question.kind == it->step && question.goal == it->asked)
+                return it->kind != MIRFODWEL_BY_NOT_KNOWN;
+        }
+    }
+    return false;
+}
 
 /* The graph of a node, with no room first; nothing where there is none. */
 struct graph {

@@ -1,6 +1,6 @@
 /*
  * Calls by chance: ROUNDS of them, 2,000 if the environment says nothing, from SEED on. In each round rows are made by chance, in order or not, and a session
- * is opened, asked, looked at and closed, with numbers, rooms and graphs as they may come from anywhere; and a table is made as a text and answered
+ * is opened, asked, looked at, opened again and closed, with numbers, rooms and graphs as they may come from anywhere; and a table is made as a text and answered
  * as a text, over its rows, and over the same rows in another order with other numbers, all of which have to say the same.
  */
 #include "callers.h"
@@ -187,6 +187,24 @@ static void show(struct world *world) {
     drop_fenced(sealed, length);
 }
 
+/* Why a goal is neither yes nor no, which is never against what is known. */
+static void look_at_cause(struct world *world) {
+    size_t depth = chance(3) ? chance(8) : strange(), goals = world->rows.sizes.goals;
+    uint32_t goal = chance(5) ? (uint32_t)chance(goals) : (uint32_t)strange();
+    mirfodwel_reason reason;
+    memset(&reason, 0xA5, sizeof reason);
+    mirfodwel_status status = mirfodwel_cause(&world->session, depth, goal, &reason);
+    expect(status == (goal < goals ? MIRFODWEL_DONE : MIRFODWEL_UNKNOWN), "round %ld: the cause of goal %u of %zu has status %d", round_number, goal, goals,
+        status);
+    if (status != MIRFODWEL_DONE) {
+        expect(is_untouched(&reason, sizeof reason), "round %ld: a cause of nothing", round_number);
+        return;
+    }
+    expect(has_reason(&world->rows, &reason), "round %ld: a reason of kind %d does not fit", round_number, reason.kind);
+    if (reason.outcome < 2)
+        learn(world, goal, reason.outcome);
+}
+
 static void look_at_rest(struct world *world) {
     size_t used = 77, nodes = 0;
     uint8_t out;
@@ -196,6 +214,36 @@ static void look_at_rest(struct world *world) {
     expect(open_over(&world->session, &world->rows, &fault) == MIRFODWEL_WRONG_STATE, "round %ld: it is opened twice", round_number);
 }
 
+static void forget(struct world *world) {
+    for (size_t goal = 0; goal < 8; goal++)
+        world->verdicts[goal] = -1;
+    drop_graph(&world->graph);
+    world->held = 0;
+}
+
+/* Opens the session again, over rows by chance, and looks at nothing of those so far but where it is refused. */
+static void reopen(struct world *world) {
+    struct rows rows = random_rows();
+    mirfodwel_row_fault found = {9, 99}, fault;
+    if (!chance(3))
+        spoil(&rows);
+    seal_rows(&rows);
+    bool is_right = is_in_order(&rows, &fault), is_early = is_right && chance(2);
+    if (is_early)
+        drop_rows(&world->rows);
+    mirfodwel_status status = reopen_over(&world->session, &rows, &found);
+    expect(status == (is_right ? MIRFODWEL_DONE : MIRFODWEL_BAD_INPUT), "round %ld: it is opened again with status %d", round_number, status);
+    if (is_right) {
+        if (!is_early)
+            drop_rows(&world->rows);
+        world->rows = rows;
+        forget(world);
+    } else {
+        expect(found.list == fault.list && found.place == fault.place, "round %ld: row %zu of list %d is bad", round_number, found.place, found.list);
+        drop_rows(&rows);
+    }
+}
+
 /* A session that is closed refuses each call. */
 static void call_closed(mirfodwel_session *session) {
     static uint8_t out[16];
@@ -203,8 +251,11 @@ static void call_closed(mirfodwel_session *session) {
     size_t used;
     bool is_valid;
     mirfodwel_answer answer;
+    mirfodwel_reason reason;
     mirfodwel_status status = MIRFODWEL_WRONG_STATE;
-    switch (chance(8)) {
+    mirfodwel_row_fault fault;
+    struct rows none = {(void *)words, (void *)words, (void *)words, out, {0, 0, 0, 0}};
+    switch (chance(10)) {
     case 0: status = mirfodwel_ask(session, strange(), (uint32_t)strange(), &answer); break;
     case 1: status = mirfodwel_graph(session, strange(), words, chance(3), &used); break;
     case 2: status = mirfodwel_check_graph(session, (uint32_t)strange(), chance(2), words, chance(3), &is_valid); break;
@@ -213,12 +264,14 @@ static void call_closed(mirfodwel_session *session) {
     case 5: status = mirfodwel_last_fault(session, out, chance(16), &used); break;
     case 6: status = mirfodwel_held(session, &used); break;
     case 7: status = mirfodwel_close(session); break;
+    case 8: status = reopen_over(session, &none, &fault); break;
+    case 9: status = mirfodwel_cause(session, strange(), (uint32_t)strange(), &reason); break;
     }
     expect(status == MIRFODWEL_WRONG_STATE && is_all_zero(session), "round %ld: a closed session has status %d", round_number, status);
 }
 
 static void use_rows(void) {
-    void (*const uses[])(struct world *) = {ask, ask, ask, look_at_graph, check, check, look_at_wanted, show, look_at_rest};
+    void (*const uses[])(struct world *) = {ask, ask, ask, look_at_graph, check, check, look_at_wanted, look_at_cause, show, look_at_rest, reopen};
     struct world world = {.rows = random_rows(), .verdicts = {-1, -1, -1, -1, -1, -1, -1, -1}};
     mirfodwel_row_fault found = {9, 99}, fault;
     if (!chance(3))

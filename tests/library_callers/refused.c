@@ -171,6 +171,15 @@ static void ask_goal(mirfodwel_session *session, uint32_t goal, size_t goals, st
     expect(status == MIRFODWEL_DONE && is_valid, "the graph of goal %u is checked with status %d", goal, status);
 }
 
+/* The session is opened again, which takes no memory, and frees what was known. */
+static void open_again(mirfodwel_session *session, const struct rows *rows) {
+    mirfodwel_row_fault fault;
+    size_t nodes = 77;
+    long before = requests;
+    expect(reopen_over(session, rows, &fault) == MIRFODWEL_DONE && requests == before, "to open it again takes %ld blocks", requests - before);
+    expect(mirfodwel_held(session, &nodes) == MIRFODWEL_DONE && nodes == 0, "%zu nodes are held once it is opened again", nodes);
+}
+
 /* All calls of a session, from the reading of the rows to the end. The rows and the session are this function's own. */
 static void run_session(struct bytes text, const struct rows *rows, struct came *came) {
     static uint8_t out[1 << 16];
@@ -193,11 +202,24 @@ static void run_session(struct bytes text, const struct rows *rows, struct came 
     expect(status == MIRFODWEL_DONE && used == 0, "what is wanted has status %d", status);
     AGAIN(status, mirfodwel_last_fault(&session, out, sizeof out, &used));
     expect(status == MIRFODWEL_DONE && (used == 0 || came->refusals), "the last fault has status %d and %zu bytes", status, used);
+    for (uint32_t goal = 0; goal < came->goals && goal < 4; goal++) {
+        mirfodwel_reason reason = {0};
+        status = mirfodwel_cause(&session, rows->sizes.goals, goal, &reason);
+        if (status == MIRFODWEL_FAULT) {
+            came->refusals++;
+            expect(reason.fault == MIRFODWEL_MEMORY, "the fault of a cause is %d", reason.fault);
+            spares = true;
+            status = mirfodwel_cause(&session, rows->sizes.goals, goal, &reason);
+            spares = false;
+        }
+        expect(status == MIRFODWEL_DONE && has_reason(rows, &reason), "the cause of goal %u has status %d", goal, status);
+    }
     for (uint8_t form = 0; form < 3 && rows->sizes.goals; form++) {
         AGAIN(status, mirfodwel_explain_goal(&session, form, rows->sizes.goals, 0, rows->names, rows->sizes.names, out, sizeof out, &used));
         expect(status == MIRFODWEL_DONE || status == MIRFODWEL_NO_ROOM, "form %d is shown with status %d", form, status);
     }
     mirfodwel_held(&session, &came->nodes);
+    open_again(&session, rows);
     expect(mirfodwel_close(&session) == MIRFODWEL_DONE && is_all_zero(&session), "it is not closed");
 }
 

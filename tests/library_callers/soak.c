@@ -1,28 +1,41 @@
 /*
  * soak SECONDS FILE..: opens a session over the rows of each table in turn, asks all its goals, hands out and checks graphs, shows a goal and closes it,
- * and answers the text, for so long. Each second it tells how often, and how much of malloc's memory is in use, which may not grow.
+ * does the same in one session that is opened again and again, and answers the text, for so long. Each second it tells how often, and how much of malloc's memory is in use, which may not grow.
  */
 #include "callers.h"
 #include <malloc.h>
 #include <time.h>
 
+static mirfodwel_session kept;
+
+/* Asks all goals, each of which has its graph. */
+static void ask_all(mirfodwel_session *session, const struct rows *rows) {
+    static uint64_t words[1 << 13];
+    size_t used;
+    for (uint32_t goal = 0; goal < rows->sizes.goals; goal++) {
+        mirfodwel_answer answer;
+        bool is_valid = false;
+        expect(mirfodwel_ask(session, rows->sizes.goals, goal, &answer) == MIRFODWEL_DONE, "goal %u is not answered", goal);
+        if (answer.outcome < 2 && mirfodwel_graph(session, answer.node, words, 1 << 13, &used) == MIRFODWEL_DONE)
+            expect(mirfodwel_check_graph(session, goal, answer.outcome, words, used, &is_valid) == MIRFODWEL_DONE && is_valid, "a graph is not valid");
+    }
+}
+
 static void use(struct bytes text, const struct rows *rows) {
     static uint8_t out[1 << 16];
-    static uint64_t words[1 << 13];
     size_t used;
     mirfodwel_session session = {0};
     mirfodwel_row_fault fault;
     mirfodwel_goals(text.at, text.length, out, sizeof out, &used);
     expect(open_over(&session, rows, &fault) == MIRFODWEL_DONE, "it is not opened");
-    for (uint32_t goal = 0; goal < rows->sizes.goals; goal++) {
-        mirfodwel_answer answer;
-        bool is_valid = false;
-        expect(mirfodwel_ask(&session, rows->sizes.goals, goal, &answer) == MIRFODWEL_DONE, "goal %u is not answered", goal);
-        if (answer.outcome < 2 && mirfodwel_graph(&session, answer.node, words, 1 << 13, &used) == MIRFODWEL_DONE)
-            expect(mirfodwel_check_graph(&session, goal, answer.outcome, words, used, &is_valid) == MIRFODWEL_DONE && is_valid, "a graph is not valid");
-    }
+    ask_all(&session, rows);
     mirfodwel_explain_goal(&session, chance(3), 9, chance(rows->sizes.goals), rows->names, rows->sizes.names, out, sizeof out, &used);
+    mirfodwel_reason reason;
+    uint32_t goal = chance(rows->sizes.goals);
+    expect(mirfodwel_cause(&session, chance(9), goal, &reason) == MIRFODWEL_DONE && has_reason(rows, &reason), "goal %u has no cause", goal);
     expect(mirfodwel_close(&session) == MIRFODWEL_DONE, "it is not closed");
+    expect((kept.is_open ? reopen_over : open_over)(&kept, rows, &fault) == MIRFODWEL_DONE, "it is not opened again");
+    ask_all(&kept, rows);
 }
 
 int main(int count, char **words) {
@@ -54,6 +67,7 @@ int main(int count, char **words) {
             fflush(stdout);
         }
     }
+    expect(mirfodwel_close(&kept) == MIRFODWEL_DONE, "the session that is opened again is not closed");
     expect(last <= first, "%zu bytes are in use at the end, and %zu at most at first", last, first);
     return finish();
 }

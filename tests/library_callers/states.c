@@ -21,9 +21,12 @@ static void closed(mirfodwel_session *session, const char *when) {
     size_t used = 77;
     bool is_valid = true;
     mirfodwel_answer answer;
+    mirfodwel_reason reason;
     memset(&answer, 0xA5, sizeof answer);
+    memset(&reason, 0xA5, sizeof reason);
     memset(out, 0xA5, sizeof out);
     expect(mirfodwel_ask(session, 9, 0, &answer) == MIRFODWEL_WRONG_STATE, "ask %s", when);
+    expect(mirfodwel_cause(session, 9, 0, &reason) == MIRFODWEL_WRONG_STATE && is_untouched(&reason, sizeof reason), "cause %s", when);
     expect(mirfodwel_graph(session, 0, words, 4, &used) == MIRFODWEL_WRONG_STATE, "graph %s", when);
     expect(mirfodwel_check_graph(session, 0, 0, words, 4, &is_valid) == MIRFODWEL_WRONG_STATE, "check_graph %s", when);
     expect(mirfodwel_wanted(session, goals, 4, &used) == MIRFODWEL_WRONG_STATE, "wanted %s", when);
@@ -31,6 +34,10 @@ static void closed(mirfodwel_session *session, const char *when) {
     expect(mirfodwel_last_fault(session, out, 64, &used) == MIRFODWEL_WRONG_STATE, "last_fault %s", when);
     expect(mirfodwel_held(session, &used) == MIRFODWEL_WRONG_STATE, "held %s", when);
     expect(mirfodwel_close(session) == MIRFODWEL_WRONG_STATE, "close %s", when);
+    mirfodwel_row_fault fault = {9, 99};
+    mirfodwel_goal past_the_end = {5, 5};
+    expect(mirfodwel_reopen(session, &past_the_end, 1, (void *)goals, 0, (void *)goals, 0, &fault) == MIRFODWEL_WRONG_STATE, "reopen %s", when);
+    expect(fault.list == 9 && fault.place == 99, "reopen %s tells of a row", when);
     expect(is_untouched(&answer, sizeof answer) && is_untouched(out, sizeof out) && is_valid && used == 77, "a call %s writes something", when);
     expect(is_all_zero(session), "a call %s opens the session", when);
 }
@@ -58,6 +65,7 @@ static void unknown(const struct rows *rows) {
     mirfodwel_session session = {0};
     mirfodwel_row_fault fault;
     mirfodwel_answer answer;
+    mirfodwel_reason reason;
     struct graph graph;
     uint8_t out[64];
     size_t used = 77, nodes = 0;
@@ -65,9 +73,12 @@ static void unknown(const struct rows *rows) {
     memset(out, 0xA5, sizeof out);
     open_over(&session, rows, &fault);
     memset(&answer, 0xA5, sizeof answer);
+    memset(&reason, 0xA5, sizeof reason);
     const uint32_t strange[] = {4, 5, 2147483648u, 4294967295u};
     for (size_t place = 0; place < COUNT(strange); place++) {
         expect(mirfodwel_ask(&session, 9, strange[place], &answer) == MIRFODWEL_UNKNOWN, "goal %u is asked", strange[place]);
+        expect(mirfodwel_cause(&session, 9, strange[place], &reason) == MIRFODWEL_UNKNOWN && is_untouched(&reason, sizeof reason),
+            "goal %u has a cause", strange[place]);
         expect(mirfodwel_check_graph(&session, strange[place], 0, (uint64_t *)out, 0, &is_valid) == MIRFODWEL_UNKNOWN, "goal %u is checked",
             strange[place]);
         expect(mirfodwel_explain_goal(&session, 0, 9, strange[place], out, 0, out + 1, 63, &used) == MIRFODWEL_UNKNOWN, "goal %u is shown",
@@ -139,6 +150,42 @@ static void row_faults(void) {
             closed(&session, "after bad rows");
         }
     }
+}
+
+/* A session that is opened again is as a new one; where the rows are bad it goes on over those so far. */
+static void reopened(const struct rows *rows) {
+    static const mirfodwel_goal lone[] = {{0, 1}, {9, MIRFODWEL_NOT_KNOWN}};
+    static const mirfodwel_candidate one[] = {{0, 1, 0}};
+    static const mirfodwel_question itself[] = {{MIRFODWEL_COINDUCTIVE, 0}, {MIRFODWEL_INDUCTIVE, 1}};
+    mirfodwel_session session = {0};
+    mirfodwel_row_fault fault = {9, 99};
+    mirfodwel_answer answer;
+    size_t count = 77;
+    expect(open_over(&session, rows, &fault) == MIRFODWEL_DONE, "it is not opened");
+    for (size_t turn = 0; turn < 3; turn++) {
+        expect(mirfodwel_ask(&session, 9, 0, &answer) == MIRFODWEL_DONE && answer.started == 2, "A has %zu runs in turn %zu", (size_t)answer.started, turn);
+        size_t node = answer.node;
+        for (size_t place = 0; place < COUNT(bad); place++) {
+            const struct bad_rows *it = &bad[place];
+            if (it->list < 0)
+                continue;
+            mirfodwel_status status = mirfodwel_reopen(&session, it->goals, 3, it->candidates, 2, it->questions, 2, &fault);
+            expect(status == MIRFODWEL_BAD_INPUT && fault.list == it->list && fault.place == it->place && session.is_open, "rows %zu are opened again", place);
+        }
+        expect(mirfodwel_ask(&session, 9, 0, &answer) == MIRFODWEL_DONE && answer.started == 0 && answer.node == node, "bad rows make it forget A");
+        fault = (mirfodwel_row_fault){9, 99};
+        expect(mirfodwel_reopen(&session, lone, 2, one, 1, itself, 1, &fault) == MIRFODWEL_DONE && fault.list == 9 && session.is_open, "it is not opened again");
+        expect(mirfodwel_held(&session, &count) == MIRFODWEL_DONE && count == 0, "%zu nodes are left", count);
+        expect(mirfodwel_graph(&session, node, (uint64_t *)&answer, 0, &count) == MIRFODWEL_UNKNOWN, "a node is left");
+        expect(mirfodwel_wanted(&session, (uint32_t *)&answer, 0, &count) == MIRFODWEL_DONE && count == 0, "%zu goals are wanted", count);
+        expect(mirfodwel_ask(&session, 9, 2, &answer) == MIRFODWEL_UNKNOWN, "C is still there");
+        expect(mirfodwel_ask(&session, 9, 0, &answer) == MIRFODWEL_DONE && answer.outcome == MIRFODWEL_YES && answer.started == 1, "the new goal is not asked");
+        expect(mirfodwel_ask(&session, 9, 1, &answer) == MIRFODWEL_DONE && answer.outcome == MIRFODWEL_MAYBE, "the goal that is not known is known");
+        expect(mirfodwel_last_fault(&session, (uint8_t *)&answer, 0, &count) == MIRFODWEL_DONE && count == 0, "there was a fault");
+        expect(reopen_over(&session, rows, &fault) == MIRFODWEL_DONE, "it is not opened again over the first rows");
+    }
+    expect(mirfodwel_close(&session) == MIRFODWEL_DONE, "it is not closed");
+    closed(&session, "after it was opened again and closed");
 }
 
 /* Arrays with no row at all are rules, too. */
@@ -227,10 +274,11 @@ static void rounds(void) {
         candidates[place] = (mirfodwel_candidate){place, place < 7, 0};
         questions[place] = (mirfodwel_question){MIRFODWEL_INDUCTIVE, place < 7 ? place + 1 : 0};
     }
+    mirfodwel_session session = {0};
     while (used) {
-        mirfodwel_session session = {0};
         mirfodwel_row_fault fault;
-        expect(mirfodwel_open(&session, goals, 8, candidates, 8, questions, 8, &fault) == MIRFODWEL_DONE, "round %zu is not opened", turns);
+        mirfodwel_status status = (turns ? mirfodwel_reopen : mirfodwel_open)(&session, goals, 8, candidates, 8, questions, 8, &fault);
+        expect(status == MIRFODWEL_DONE, "round %zu is not opened", turns);
         expect(mirfodwel_ask(&session, 8, 0, &answer) == MIRFODWEL_DONE, "round %zu is not answered", turns);
         expect(answer.outcome == (next == 8 ? MIRFODWEL_YES : MIRFODWEL_MAYBE), "round %zu answers %s", turns, outcome_words[answer.outcome]);
         expect(mirfodwel_wanted(&session, wanted, 0, &used) == (next == 8 ? MIRFODWEL_DONE : MIRFODWEL_NO_ROOM), "round %zu wants %zu", turns, used);
@@ -239,10 +287,10 @@ static void rounds(void) {
             goals[next] = (mirfodwel_goal){next, 1};
             next++;
         }
-        mirfodwel_close(&session);
         if (++turns > 9)
             break;
     }
+    mirfodwel_close(&session);
     expect(turns == 9, "there are %zu rounds", turns);
 }
 
@@ -271,7 +319,7 @@ static void shown(const struct rows *rows) {
     mirfodwel_close(&session);
 }
 
-/* A goal that has no name is called by its number; data that is shown is accepted. */
+/* A goal that has no name is called by its number; data that is shown is accepted, and calls goals by their numbers, whatever their names. */
 static void shown_by_number(const struct rows *rows) {
     mirfodwel_session session = {0};
     mirfodwel_row_fault fault;
@@ -284,10 +332,70 @@ static void shown_by_number(const struct rows *rows) {
     for (size_t named = 0; named <= rows->sizes.names; named++) {
         status = mirfodwel_explain_goal(&session, MIRFODWEL_DATA, 4, 2, rows->names, named, out, sizeof out, &used);
         mirfodwel_status checked = mirfodwel_check(out, used, told, sizeof told, &length);
-        expect(status == MIRFODWEL_DONE && checked == MIRFODWEL_DONE, "goal 2 is shown with status %d and told with status %d: '%.*s'", status, checked,
+        bool is_called = length == 14 && !memcmp(told, "2 no accepted\n", 14);
+        expect(status == MIRFODWEL_DONE && checked == MIRFODWEL_DONE && is_called, "goal 2 is shown with status %d and told with status %d: '%.*s'", status, checked,
             (int)length, (char *)told);
     }
     mirfodwel_close(&session);
+}
+
+struct wanted_cause {
+    size_t depth;
+    char goal;
+    uint8_t outcome, kind;
+    char by; /* where a question is named */
+    uint8_t step;
+    char asked;
+};
+
+/* Why goals of `caused` are neither yes nor no. */
+static const char *const caused = "rule A = i:B\nrule B = u:A\nrule C = c:A\nrule D = f:D\nrule E = i:F\nrule F = i:G\nrule G =\nrule H = i:I\nrule J = i:K\nask 4 K\n";
+static const struct wanted_cause causes_wanted[] = {
+    {9, 'G', MIRFODWEL_YES, MIRFODWEL_NO_CAUSE, 0, 0, 0},
+    {9, 'E', MIRFODWEL_YES, MIRFODWEL_NO_CAUSE, 0, 0, 0},
+    {9, 'H', MIRFODWEL_NO, MIRFODWEL_NO_CAUSE, 0, 0, 0},
+    {9, 'A', MIRFODWEL_MAYBE, MIRFODWEL_UNKNOWN_CYCLE, 'B', MIRFODWEL_UNKNOWN_KIND, 'A'},
+    {9, 'C', MIRFODWEL_MAYBE, MIRFODWEL_UNKNOWN_CYCLE, 'B', MIRFODWEL_UNKNOWN_KIND, 'A'},
+    {9, 'D', MIRFODWEL_MAYBE, MIRFODWEL_FORCED_CYCLE, 'D', MIRFODWEL_FORCED_AMBIGUITY, 'D'},
+    {1, 'E', MIRFODWEL_MAYBE, MIRFODWEL_NO_DEPTH, 'F', MIRFODWEL_INDUCTIVE, 'G'},
+    {0, 'E', MIRFODWEL_MAYBE, MIRFODWEL_NO_DEPTH, 'E', MIRFODWEL_INDUCTIVE, 'F'},
+    {9, 'K', MIRFODWEL_MAYBE, MIRFODWEL_BY_NOT_KNOWN, 'K', MIRFODWEL_FORCED_AMBIGUITY, 'K'},
+    {0, 'K', MIRFODWEL_MAYBE, MIRFODWEL_BY_NOT_KNOWN, 'K', MIRFODWEL_FORCED_AMBIGUITY, 'K'},
+    {9, 'J', MIRFODWEL_MAYBE, MIRFODWEL_BY_NOT_KNOWN, 'K', MIRFODWEL_FORCED_AMBIGUITY, 'K'},
+    {0, 'J', MIRFODWEL_MAYBE, MIRFODWEL_NO_DEPTH, 'J', MIRFODWEL_INDUCTIVE, 'K'},
+};
+
+/* Each cause is told, before and after the goal is asked, and nothing is stored of that. */
+static void causes(void) {
+    struct rows read, rows;
+    mirfodwel_session session = {0};
+    mirfodwel_row_fault fault;
+    mirfodwel_answer answer;
+    size_t before = 0, nodes = 77;
+    expect(read_rows(text_of(caused), &read) == MIRFODWEL_DONE && read.sizes.goals == 11, "'%s' is read otherwise", caused);
+    rows = read;
+    rows.goals = given(malloc(rows.sizes.goals * sizeof(mirfodwel_goal)));
+    memcpy(rows.goals, read.goals, rows.sizes.goals * sizeof(mirfodwel_goal));
+    rows.goals[10].count = MIRFODWEL_NOT_KNOWN;
+    open_over(&session, &rows, &fault);
+    for (size_t turn = 0; turn < 2 * COUNT(causes_wanted); turn++) {
+        const struct wanted_cause *it = &causes_wanted[turn / 2];
+        mirfodwel_reason reason;
+        memset(&reason, 0xA5, sizeof reason);
+        mirfodwel_status status = mirfodwel_cause(&session, it->depth, it->goal - 'A', &reason);
+        expect(status == MIRFODWEL_DONE && has_reason(&rows, &reason), "of %c no reason is told that fits, status %d", it->goal, status);
+        expect(reason.outcome == it->outcome && reason.kind == it->kind && reason.started > 0, "%c is %s, for a reason of kind %d", it->goal,
+            outcome_words[reason.outcome & 3], reason.kind);
+        expect(reason.has_question == (it->by != 0) && (!it->by || (reason.by == (uint32_t)(it->by - 'A') && reason.step == it->step &&
+                reason.asked == (uint32_t)(it->asked - 'A'))), "%c was cut off where %u asks %u", it->goal, reason.by, reason.asked);
+        mirfodwel_held(&session, &nodes);
+        expect(nodes == before, "%zu nodes are held of a cause, and before %zu", nodes, before);
+        expect(mirfodwel_ask(&session, it->depth, it->goal - 'A', &answer) == MIRFODWEL_DONE, "%c is not asked", it->goal);
+        mirfodwel_held(&session, &before);
+    }
+    mirfodwel_close(&session);
+    free(rows.goals);
+    drop_rows(&read);
 }
 
 int main(void) {
@@ -297,6 +405,7 @@ int main(void) {
     states(&rows);
     unknown(&rows);
     row_faults();
+    reopened(&rows);
     nothing_at_all();
     short_arrays(table);
     short_arrays("rule A =\n");
@@ -305,6 +414,7 @@ int main(void) {
     rounds();
     shown(&rows);
     shown_by_number(&rows);
+    causes();
     drop_rows(&rows);
     return finish();
 }

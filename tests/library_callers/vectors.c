@@ -1,6 +1,6 @@
 /*
- * vectors FILE..: each case of these files, as vectors/README.md describes them, is put to the calls on texts, and to a session that is
- * opened over its rows: they have to say what the case expects. Each graph of a yes or a no is handed out and checked, as it is and
+ * vectors FILE..: each case of these files, as vectors/README.md describes them, is put to the calls on texts, to a session that is
+ * opened over its rows, and to one that goes over from case to case: they have to say what the case expects. Each graph of a yes or a no is handed out and checked, as it is and
  * with one word changed. Where a case is small, each room below what is wanted is refused.
  */
 #include "callers.h"
@@ -162,6 +162,16 @@ static void check_graph(const struct one_case *it, mirfodwel_session *session, u
     drop_graph(&graph);
 }
 
+/* The reason has to fit the goal. It is asked anew, which may come to less or to more, but never to a yes in place of a no. */
+static void check_cause(const struct one_case *it, const struct rows *rows, mirfodwel_session *session, size_t depth, uint32_t goal,
+    const mirfodwel_answer *answer) {
+    mirfodwel_reason reason;
+    mirfodwel_status status = mirfodwel_cause(session, depth, goal, &reason);
+    expect(status == MIRFODWEL_DONE && has_reason(rows, &reason) && (answer->outcome > 1 || reason.outcome > 1 || answer->outcome == reason.outcome),
+        "case %s of %s: goal %u is %s, and anew %s, for a reason of kind %d, status %d", it->name, it->file, goal, outcome_words[answer->outcome],
+        outcome_words[reason.outcome & 3], reason.kind, status);
+}
+
 /* Asks one question of the text in the session, and compares the answer with its line. */
 static void ask_one(const struct one_case *it, const struct rows *rows, mirfodwel_session *session, struct bytes asked, struct bytes wanted) {
     char name[32], line[64];
@@ -180,6 +190,7 @@ static void ask_one(const struct one_case *it, const struct rows *rows, mirfodwe
         line, (int)wanted.length, (char *)wanted.at);
     if (answer.outcome < 2 && expect(answer.has_graph, "case %s of %s: %s has no graph", it->name, it->file, line))
         check_graph(it, session, goal, &answer);
+    check_cause(it, rows, session, depth, goal, &answer);
 }
 
 /* Of a session in which nothing went wrong, all goals of which are known. */
@@ -194,6 +205,22 @@ static void look_at(const struct one_case *it, mirfodwel_session *session) {
     expect(mirfodwel_held(session, &nodes) == MIRFODWEL_DONE && nodes >= is_some, "case %s of %s: %zu nodes are held", it->name, it->file, nodes);
 }
 
+/* Asks the questions of the text in a session that was opened over its rows with this status. */
+static void ask_in(const struct one_case *it, const struct rows *rows, mirfodwel_session *session, mirfodwel_status status) {
+    expect(status == MIRFODWEL_DONE && session->is_open, "case %s of %s: it is opened with status %d", it->name, it->file, status);
+    struct lines left = {it->text.at, it->text.at + it->text.length}, answers = {it->out.at, it->out.at + it->out.length};
+    while (left.at < left.end) {
+        struct bytes line = next_line(&left);
+        if (line.length > strspn((const char *)line.at, " ") && line.at[strspn((const char *)line.at, " ")] == 'a')
+            ask_one(it, rows, session, line, next_line(&answers));
+    }
+    expect(answers.at == answers.end, "case %s of %s: fewer questions than answers", it->name, it->file);
+    look_at(it, session);
+}
+
+/* The session that goes over from case to case. */
+static mirfodwel_session kept;
+
 static void ask_all(const struct one_case *it) {
     struct rows rows;
     mirfodwel_session session = {0};
@@ -201,18 +228,10 @@ static void ask_all(const struct one_case *it) {
     mirfodwel_status status = read_rows(it->text, &rows);
     expect(status == (it->status == 2 ? MIRFODWEL_BAD_INPUT : MIRFODWEL_DONE), "case %s of %s: its rows have status %d", it->name, it->file, status);
     if (status == MIRFODWEL_DONE) {
-        status = open_over(&session, &rows, &fault);
-        expect(status == MIRFODWEL_DONE && session.is_open, "case %s of %s: it is opened with status %d", it->name, it->file, status);
-        struct lines left = {it->text.at, it->text.at + it->text.length}, answers = {it->out.at, it->out.at + it->out.length};
-        while (left.at < left.end) {
-            struct bytes line = next_line(&left);
-            if (line.length > strspn((const char *)line.at, " ") && line.at[strspn((const char *)line.at, " ")] == 'a')
-                ask_one(it, &rows, &session, line, next_line(&answers));
-        }
-        expect(answers.at == answers.end, "case %s of %s: fewer questions than answers", it->name, it->file);
-        look_at(it, &session);
+        ask_in(it, &rows, &session, open_over(&session, &rows, &fault));
         status = mirfodwel_close(&session);
         expect(status == MIRFODWEL_DONE && is_all_zero(&session), "case %s of %s: it is closed with status %d", it->name, it->file, status);
+        ask_in(it, &rows, &kept, (kept.is_open ? reopen_over : open_over)(&kept, &rows, &fault));
     }
     drop_rows(&rows);
 }
@@ -238,5 +257,6 @@ int main(int count, char **words) {
         }
         free(file.at);
     }
+    expect(!kept.is_open || mirfodwel_close(&kept) == MIRFODWEL_DONE, "the session that goes over from case to case is not closed");
     return finish();
 }

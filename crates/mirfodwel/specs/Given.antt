@@ -74,7 +74,7 @@ pub data Asks (Promised : Inside → Came → Inside → Type 0) (goal : ℕ) (b
       → Asks Promised goal before after answer told status
 
 -- The goal was asked anew, and a page shows what it came to: 1 says that it met a fault or its graph was refused. Or
--- there is no such goal or form, or the rules were not read, or there was no memory.
+-- there is no such goal or form, or there was no memory.
 pub data Explains (Shown : List ℕ → Bool → Type 0) (inside : Inside) (form goal : ℕ) (old new : List ℕ)
     (before used status : ℕ)
     : Type 0 where
@@ -83,5 +83,4 @@ pub data Explains (Shown : List ℕ → Bool → Type 0) (inside : Inside) (form
       → Explains Shown inside form goal old new before used status
   NotAsked : (2 < form) ⊎ (goals_in inside ≤ goal) → IsRefused 7 old new before used status
       → Explains Shown inside form goal old new before used status
-  NotRead : IsRefused 2 old new before used status → Explains Shown inside form goal old new before used status
   BrokenOff : IsRefused 4 old new before used status → Explains Shown inside form goal old new before used status

@@ -102,7 +102,7 @@ fn answered(asked: Asked) -> Answer
     }
 }
 
-fn number_of(outcome: Outcome) -> u8
+pub(crate) fn number_of(outcome: Outcome) -> u8
     ensures { result ≡ number_of outcome }
 {
     match outcome {
@@ -126,7 +126,7 @@ fn failed(fault: Fault<u32, Outcome>) -> Answer
     }
 }
 
-fn fault_number(fault: Fault<u32, Outcome>) -> u8
+pub(crate) fn fault_number(fault: Fault<u32, Outcome>) -> u8
     ensures { result ≡ fault_number fault }
 {
     match fault {

@@ -1,16 +1,16 @@
 //! Goals are asked, and shown with their graphs.
-ghost use Rattle.std.specs.Prelude.{◌≡◌, ◌≤◌, ◌==◌, [], IfOk, MatchOption, Some};
+ghost use Rattle.std.specs.Prelude.{◌≡◌, ◌<◌, ◌≤◌, ◌==◌, [], IfErr, IfOk, MatchOption, Some};
 ghost use Rattle.graph_pages.specs.Program.{ShowsAnswers};
 ghost use Rattle.mirfodwel.specs.Given.{Explains, IsRefused};
-ghost use Rattle.mirfodwel.specs.Rows.{rows_in};
+ghost use Rattle.mirfodwel.specs.Rows.{goals_in, rows_in};
 ghost use Rattle.mirfodwel.specs.TableText.{text_asking};
-ghost use Rattle.mirfodwel.specs.Texts.{form_of};
+ghost use Rattle.mirfodwel.specs.Texts.{IsForMemory, form_of};
 
 use crate::buffers::hand_out;
 use crate::handle::Handle;
 use crate::inside::Inside;
 use crate::labels::labels_of;
-use crate::status::{BAD_INPUT, DONE, FAULT, NO_MEMORY, UNKNOWN, WRONG_STATE};
+use crate::status::{DONE, FAULT, NO_MEMORY, UNKNOWN, WRONG_STATE};
 use crate::table_text::table_text;
 use crate::texts::form_of;
 use search_context::context::{Cx, Delegate};
@@ -82,7 +82,8 @@ fn give_page(
     }
     match shown(alloc, inside, form, depth, goal, names) {
         Ok(Page { status, text }) => hand_out(status, text.as_slice(), out, used),
-        Err(Stop::BadLine(_) | Stop::BadData(_)) => BAD_INPUT,
+        // The text of rows is in order, so that each line of it is read.
+        Err(Stop::BadLine(_) | Stop::BadData(_)) => unreachable!(),
         Err(Stop::InputOrOutput | Stop::Memory) => NO_MEMORY,
     }
 }
@@ -96,10 +97,11 @@ fn shown(
     goal: u32,
     names: &[u8],
 ) -> Result<Page, Stop>
-    ensures { IfOk result (λ page. (page.status ≤ 1) × ShowsAnswers
+    ensures page { IfOk result (λ page. (page.status ≤ 1) × ShowsAnswers
         ⟦<TableDelegate<'static, 8, 1> as Delegate>⟧ ⟦<Table<&'static Rules> as Cx>⟧
         (Some (text_asking (rows_in inside.now) depth goal)) (Some []) (Some page.text.items) form
         (page.status == 0)) }
+    ensures memory { goal < goals_in inside.now → IfErr result IsForMemory }
 {
     let rules = table_text(alloc, inside.session.lender(), depth, goal)?;
     let labels = labels_of(alloc, names)?;

@@ -11,14 +11,15 @@
 //! | `Handed` | how what a call came to leaves by a buffer |
 //! | `Texts`, `Reading` | what calls on texts come to |
 //! | `Held`, `Rows` | what a handle owns, and the rows of a session |
-//! | `Opening` | how a session begins |
-//! | `Asked`, `Given` | what calls on sessions come to |
-//! | `TableText` | the text that is shown of rows |
+//! | `Opening` | how a session begins, also where it is opened again |
+//! | `Asked`, `Causes`, `Given` | what calls on sessions come to |
+//! | `TableText`, `Labels` | the text that is shown of rows, and what goals are called there |
 #![tactic(auto)]
 
 mod address;
 mod asking;
 mod buffers;
+mod causes;
 mod explaining;
 mod graphs;
 mod handle;
@@ -27,6 +28,7 @@ mod labels;
 mod lent;
 mod opening;
 mod reading;
+mod reopening;
 mod status;
 mod table_text;
 mod texts;

@@ -1,5 +1,5 @@
 //! Sessions are opened and closed.
-ghost use Rattle.std.specs.Prelude.{◌≡◌, ◌≢◌, ◌⊎◌, IfOk, IsSome, IsSomeAnd, None};
+ghost use Rattle.std.specs.Prelude.{◌≡◌, ◌≢◌, ◌⊎◌, IfErr, IfOk, IsSome, IsSomeAnd, None, OnOk};
 ghost use Rattle.mirfodwel.specs.Opening.{IsNew, fault_of};
 ghost use Rattle.mirfodwel.specs.Rows.{rows_of};
 ghost use Rattle.rule_arrays.specs.Faults.{IsFirstFault, IsTable};
@@ -9,7 +9,7 @@ use crate::handle::Handle;
 use crate::inside::Inside;
 use crate::lent::Lent;
 use crate::status::{BAD_INPUT, DONE, NO_MEMORY, WRONG_STATE};
-use rule_arrays::{CandidateRow, GoalRow, QuestionRow, RowFault, first_fault};
+use rule_arrays::{Arrays, CandidateRow, GoalRow, QuestionRow, RowFault, first_fault};
 use sessions::Session;
 use std::alloc::{AllocError, Global};
 
@@ -50,15 +50,13 @@ pub extern "C" fn mirfodwel_open(
     if handle.is_open {
         return WRONG_STATE;
     }
-    let lent = Lent {
-        goals,
-        candidates,
-        questions,
+    let lent = match lent_in_order(goals, candidates, questions) {
+        Ok(lent) => lent,
+        Err(fault) => {
+            *bad_row = told(fault);
+            return BAD_INPUT;
+        }
     };
-    if let Some(fault) = first_fault(lent) {
-        *bad_row = told(fault);
-        return BAD_INPUT;
-    }
     match new_session(alloc, lent) {
         Ok(inside) => {
             *handle = Handle::of(inside);
@@ -68,7 +66,34 @@ pub extern "C" fn mirfodwel_open(
     }
 }
 
-fn told(fault: RowFault) -> BadRow
+/// These rows, or the first of them that is not in order.
+pub(crate) fn lent_in_order(
+    goals: &'static [GoalRow],
+    candidates: &'static [CandidateRow],
+    questions: &'static [QuestionRow],
+) -> Result<Lent, RowFault>
+    ensures rows { IfOk result (λ lent.
+        rows_of lent ≡ table_with goals.now candidates.now questions.now) }
+    ensures in_order { OnOk result (IsTable (table_with goals.now candidates.now questions.now)) }
+    ensures bad { IfErr result (λ fault.
+        IsFirstFault (table_with goals.now candidates.now questions.now) fault) }
+{
+    let rows = Arrays {
+        goals,
+        candidates,
+        questions,
+    };
+    if let Some(fault) = first_fault(rows) {
+        return Err(fault);
+    }
+    Ok(Lent {
+        goals,
+        candidates,
+        questions,
+    })
+}
+
+pub(crate) fn told(fault: RowFault) -> BadRow
     ensures { fault_of result ≡ fault }
 {
     match fault {
