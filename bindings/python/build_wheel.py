@@ -1,6 +1,6 @@
 """Makes the wheel of the package, with the shared library in it, for `pip install .`. It needs Python alone, and leaves nothing here.
 
-The library is the one that the package would load: in `out/` of the repository, or where MIRFODWEL_LIB says.
+The library is the one that the package would load: in `out/` of the repository, or in the folder that MIRFODWEL_LIB names.
 """
 
 import base64

@@ -10,13 +10,14 @@ Depths bound calls; `solve` can be ended between its rounds, and `run_with_timeo
 from .errors import BadInput, Closed, Error, Fault, NoLibrary, OutOfMemory, TimedOut, Unknown
 from .graphs import Edge, Graph, Node
 from .rounds import Solution, solve
-from .sessions import Answer, Session
+from .sessions import Answer, Cause, Session
 from .tables import Marked, Table
 from .texts import Result, answers, check, explain, goals, run_with_timeout, subtypes
 
 __all__ = [
     "Answer",
     "BadInput",
+    "Cause",
     "Closed",
     "Edge",
     "Error",

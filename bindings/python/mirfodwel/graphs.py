@@ -51,13 +51,23 @@ def _quoted(text: str) -> str:
 
 
 class Graph:
-    """The graph of an answer: `nodes`, the root first. It stays when its session is closed, but `check` and `explain` ask it."""
+    """The graph of an answer: `nodes`, the root first. It stays when its session is closed, but `check` and `explain` ask it, and
+    raise Unknown where that was opened again."""
 
-    def __init__(self, session: "Session", goal: Hashable, outcome: str, depth: int, words: Sequence[int]) -> None:
-        self._session = session
+    def __init__(
+        self,
+        session: "Session",
+        turn: int,
+        goal: Hashable,
+        outcome: str,
+        depth: int,
+        words: Sequence[int],
+        goal_at: Callable[[int], Hashable],
+    ) -> None:
+        self._session, self._turn = session, turn
         self.goal, self.outcome, self.depth = goal, outcome, depth
         self.words = list(words)
-        self.nodes = _nodes(self.words, session.table.goal)
+        self.nodes = _nodes(self.words, goal_at)
 
     @property
     def edges(self) -> list[Edge]:
@@ -66,11 +76,11 @@ class Graph:
 
     def check(self) -> bool:
         """Whether the checker accepts the graph for its goal and outcome."""
-        return self._session.check(self.goal, self.outcome, self.words)
+        return self._session._check(self._turn, self.goal, self.outcome, self.words)
 
     def explain(self, form: str = "text") -> str:
         """The answer in words, as `dot` or as `json`; for this the goal is asked anew."""
-        return self._session.explain(self.goal, form, self.depth)
+        return self._session._explain(self._turn, self.goal, form, self.depth)
 
     def to_networkx(self) -> Any:
         """A networkx.MultiDiGraph of the nodes' places, with `goal` and `outcome`, and edges with `kind`. It needs networkx."""

@@ -22,6 +22,7 @@ OUTCOMES = ("yes", "no", "maybe", "overflow")
 REPLIES = (*OUTCOMES, "noted", "begin")
 FORMS = ("text", "dot", "json")
 FAULTS = ("none", "memory", "conflict", "validation", "protocol")
+CAUSES = ("none", "depth", "depth or runs", "runs", "unknown cycle", "forced cycle", "not known", "maybe before", "not noted")
 
 NAME = "libmirfodwel.so"
 
@@ -49,6 +50,20 @@ class AnswerRow(ctypes.Structure):
     ]
 
 
+class ReasonRow(ctypes.Structure):
+    _fields_ = [
+        ("started", c_uint64),
+        ("by", c_uint32),
+        ("asked", c_uint32),
+        ("step", c_uint8),
+        ("has_question", c_bool),
+        ("kind", c_uint8),
+        ("outcome", c_uint8),
+        ("fault", c_uint8),
+        ("limits_met", c_bool),
+    ]
+
+
 # Bytes with their number, a buffer with its room, and where the room goes that is used.
 _IN = (c_char_p, c_size_t)
 _ROWS = (c_void_p, c_size_t)
@@ -63,11 +78,13 @@ _ARGUMENTS = {
     "subtypes": (*_IN, *_OUT),
     "read": (*_IN, *_ROWS, *_ROWS, *_ROWS, *_ROWS, POINTER(Sizes), POINTER(c_size_t)),
     "open": (_SESSION, *_ROWS, *_ROWS, *_ROWS, POINTER(RowFault)),
+    "reopen": (_SESSION, *_ROWS, *_ROWS, *_ROWS, POINTER(RowFault)),
     "ask": (_SESSION, c_size_t, c_uint32, POINTER(AnswerRow)),
     "graph": (_SESSION, c_size_t, *_OUT),
     "check_graph": (_SESSION, c_uint32, c_uint8, *_ROWS, POINTER(c_bool)),
     "wanted": (_SESSION, *_OUT),
     "explain_goal": (_SESSION, c_uint8, c_size_t, c_uint32, *_IN, *_OUT),
+    "cause": (_SESSION, c_size_t, c_uint32, POINTER(ReasonRow)),
     "last_fault": (_SESSION, *_OUT),
     "held": (_SESSION, POINTER(c_size_t)),
     "close": (_SESSION,),
@@ -75,15 +92,16 @@ _ARGUMENTS = {
 
 
 def path() -> Path:
-    """Where the library is: where MIRFODWEL_LIB says, if it is set, else beside the package or in the repository's `out`."""
+    """Where the library is: in the folder that MIRFODWEL_LIB names, if it is set, else beside the package or in the repository's `out`."""
     named = os.environ.get("MIRFODWEL_LIB")
     here = Path(__file__).resolve().parent
-    places = [Path(named)] if named else [here / NAME, here / "../../../out" / NAME]
+    folders = [Path(named)] if named else [here, here / "../../../out"]
+    places = [folder / NAME for folder in folders]
     for place in places:
         if place.is_file():
-            return place.resolve()
+            return Path(os.path.abspath(place))
     looked = " or ".join(map(os.path.normpath, places))
-    raise NoLibrary(f"no library at {looked}: ./library in the repository builds out/{NAME}; MIRFODWEL_LIB names another file")
+    raise NoLibrary(f"no library at {looked}: ./library in the repository builds out/{NAME}; MIRFODWEL_LIB may name another folder")
 
 
 @functools.lru_cache(maxsize=None)

@@ -83,7 +83,7 @@ def run_with_timeout(function: Callable[..., Result], text: Text, seconds: float
     """
     data = text.encode() if isinstance(text, str) else bytes(text)
     folders = [str(Path(__file__).resolve().parent.parent), *filter(None, [os.environ.get("PYTHONPATH")])]
-    environment = {**os.environ, "PYTHONPATH": os.pathsep.join(folders), "MIRFODWEL_LIB": str(path())}
+    environment = {**os.environ, "PYTHONPATH": os.pathsep.join(folders), "MIRFODWEL_LIB": str(path().parent)}
     command = [sys.executable, "-m", "mirfodwel", function.__name__, *options.values()]
     pipes = {"stdin": subprocess.PIPE, "stdout": subprocess.PIPE, "stderr": subprocess.PIPE}
     with subprocess.Popen(command, env=environment, **pipes) as child:

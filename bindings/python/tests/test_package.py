@@ -8,6 +8,8 @@ import tempfile
 import unittest
 from pathlib import Path
 
+from mirfodwel.library import NAME, path
+
 HERE = Path(__file__).resolve().parents[1]
 
 
@@ -29,8 +31,16 @@ class Package(unittest.TestCase):
         self.assertTrue(failed == 0 and tried > 5)
 
     def test_no_library(self):
-        done = self.run_apart("import mirfodwel; mirfodwel.goals('')", HERE, MIRFODWEL_LIB="/none.so")
-        self.assertIn("NoLibrary: no library at /none.so: ./library in the repository builds", done.stderr)
+        done = self.run_apart("import mirfodwel; mirfodwel.goals('')", HERE, MIRFODWEL_LIB="/none")
+        self.assertIn("NoLibrary: no library at /none/libmirfodwel.so: ./library in the repository builds", done.stderr)
+
+    def test_named_folder(self):
+        with tempfile.TemporaryDirectory() as folder:
+            named = Path(folder, NAME)
+            named.symlink_to(path())
+            code = "import mirfodwel as m, mirfodwel.library as it; print(it.path(), m.run_with_timeout(m.goals, 'ask 1 A', 60).lines)"
+            done = self.run_apart(code, HERE, MIRFODWEL_LIB=folder)
+            self.assertEqual(done.stdout, f"{named} ['A no 1 checked']\n", done.stderr)
 
     def test_wheel(self):
         if pip("--version").returncode:

@@ -111,6 +111,28 @@ class Answers(unittest.TestCase):
             self.assertEqual((answer.outcome, answer.limits_met, answer.runs), ("yes", False, 3))
             self.assertEqual(session.ask(0, 10**30).runs, 0)
 
+    def test_causes(self):
+        with Session(Table("rule A = i:B\nrule B = u:A\nrule C =\nrule D = f:D\nrule F = i:E")) as session:
+            for goal, outcome in (("C", "yes"), ("E", "no")):
+                cause = session.cause(goal)
+                self.assertEqual((cause.outcome, cause.kind, cause.question, str(cause)), (outcome, "none", None, f"{goal} is {outcome}"))
+            cause = session.ask("A").cause()
+            self.assertEqual((cause.kind, cause.question, cause.runs), ("unknown cycle", ("B", "u", "A"), 2))
+            self.assertEqual(str(cause), "A is maybe: cut off at u:A of B: a cycle of unknown kind")
+            self.assertEqual(str(session.cause("D")), "D is maybe: cut off at f:D of D: a cycle of forced ambiguity")
+            cause = session.cause("A", depth=0)
+            self.assertEqual((cause.limits_met, str(cause)), (True, "A is maybe: cut off at i:B of A, which had no depth left"))
+            with self.assertRaises(Unknown):
+                session.cause("Z")
+        with self.assertRaises(Closed):
+            session.cause("A")
+        table = Table(is_open=True)
+        table.add(0, [[("i", 1)]])
+        with Session(table) as session:
+            cause = session.cause(0)
+            self.assertEqual((cause.kind, cause.question), ("not known", (1, "f", 1)))
+            self.assertEqual(str(cause), "0 is maybe: the candidates of 1 are not known")
+
 
 class Graphs(unittest.TestCase):
     def setUp(self):
@@ -183,8 +205,9 @@ class Closing(unittest.TestCase):
         table = Table("rule A = c:A")
         with Session(table) as session:
             table.add("B", [])
-            for call, of in ((session.ask, "B"), (session.ask, "C"), (session.explain, "B"), (session._graph_words, 9)):
+            for call, of in ((session.ask, "B"), (session.ask, "C"), (session.explain, "B")):
                 self.assertRaises(Unknown, call, of)
+            self.assertRaises(Unknown, session._graph_words, 9, 1)
             self.assertRaises(ValueError, session.ask, "A", -1)
             self.assertRaises(TypeError, session.ask, "A", "1")
             self.assertEqual(session.ask("A").outcome, "yes")
@@ -193,6 +216,26 @@ class Closing(unittest.TestCase):
         table = Table("rule A = c:A")
         table._questions[1] = 5
         self.assertRaises(BadInput, Session, table)
+        with Session(Table("rule A = c:A")) as session:
+            answer = session.ask("A")
+            self.assertRaises(BadInput, session.reopen, table)
+            self.assertEqual((session.ask("A").runs, answer.graph.check()), (0, True))
+
+    def test_opened_again(self):
+        first, other = Table("rule A = c:A"), Table("rule X = i:X\nrule A = i:A")
+        with Session(first) as session:
+            for _ in range(3):
+                answer, late = session.ask("A"), session.ask("A")
+                graph = answer.graph
+                self.assertEqual((answer.outcome, answer.runs, graph.check()), ("yes", 1, True))
+                session.reopen(other)
+                self.assertEqual((session.held, session.table, answer.graph), (0, other, graph))
+                for call in (lambda: late.graph, late.cause, graph.check, graph.explain):
+                    self.assertRaises(Unknown, call)
+                self.assertEqual([session.ask(goal).outcome for goal in "XA"], ["no", "no"])
+                session.reopen(first)
+                self.assertRaises(Unknown, session.ask, "X")
+        self.assertRaises(Closed, session.reopen, first)
 
     def test_faults(self):
         def faulty(name):

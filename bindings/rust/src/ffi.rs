@@ -8,7 +8,7 @@
 
 use crate::table::Table;
 use std::ffi::c_void;
-use std::ptr;
+use std::{mem, ptr};
 
 /// What a call says of itself, as one of the constants below.
 pub(crate) type Status = u8;
@@ -84,15 +84,36 @@ pub(crate) struct RawAnswer {
     pub(crate) limits_met: bool,
 }
 
+/// Why a goal is neither yes nor no.
+#[repr(C)]
+#[derive(Default)]
+pub(crate) struct RawReason {
+    pub(crate) started: u64,
+    pub(crate) by: u32,
+    pub(crate) asked: u32,
+    pub(crate) step: u8,
+    pub(crate) has_question: bool,
+    pub(crate) kind: u8,
+    pub(crate) outcome: u8,
+    pub(crate) fault: u8,
+    pub(crate) limits_met: bool,
+}
+
 #[repr(C)]
 struct RawSession {
     is_open: bool,
     inside: *mut c_void,
 }
 
+impl RawSession {
+    fn closed() -> RawSession {
+        RawSession { is_open: false, inside: ptr::null_mut() }
+    }
+}
+
 const _: () = assert!(size_of::<GoalRow>() == 8 && size_of::<CandidateRow>() == 12 && size_of::<QuestionRow>() == 8);
 const _: () = assert!(size_of::<Sizes>() == 32 && size_of::<RowFault>() == 16);
-const _: () = assert!(size_of::<RawAnswer>() == 24 && size_of::<RawSession>() == 16);
+const _: () = assert!(size_of::<RawAnswer>() == 24 && size_of::<RawReason>() == 24 && size_of::<RawSession>() == 16);
 
 unsafe extern "C" {
     fn mirfodwel_goals(text: *const u8, length: usize, out: *mut u8, room: usize, used: *mut usize) -> Status;
@@ -132,6 +153,16 @@ unsafe extern "C" {
         questions_count: usize,
         fault: *mut RowFault,
     ) -> Status;
+    fn mirfodwel_reopen(
+        session: *mut RawSession,
+        goals: *const GoalRow,
+        goals_count: usize,
+        candidates: *const CandidateRow,
+        candidates_count: usize,
+        questions: *const QuestionRow,
+        questions_count: usize,
+        fault: *mut RowFault,
+    ) -> Status;
     fn mirfodwel_ask(session: *mut RawSession, depth: usize, goal: u32, answer: *mut RawAnswer) -> Status;
     fn mirfodwel_graph(session: *mut RawSession, node: usize, out: *mut u64, room: usize, used: *mut usize) -> Status;
     fn mirfodwel_check_graph(
@@ -154,6 +185,7 @@ unsafe extern "C" {
         room: usize,
         used: *mut usize,
     ) -> Status;
+    fn mirfodwel_cause(session: *mut RawSession, depth: usize, goal: u32, reason: *mut RawReason) -> Status;
     fn mirfodwel_last_fault(session: *mut RawSession, out: *mut u8, room: usize, used: *mut usize) -> Status;
     fn mirfodwel_held(session: *mut RawSession, nodes: *mut usize) -> Status;
     fn mirfodwel_close(session: *mut RawSession) -> Status;
@@ -253,11 +285,13 @@ pub(crate) fn find(names: &[u8], name: &[u8]) -> Option<u32> {
 
 /// A table, and a session of the library that is open over its rows or closed.
 ///
-/// While it is open the library has pointers to the rows. They stay valid: the table is lent out mutably only by `change`,
-/// which closes first; nothing in a `Table` changes while it is shared; the rows lie on the heap, where they stay when the
-/// value moves; and the session is closed before the table is dropped.
+/// While `raw` is open the library has pointers to the rows. They stay valid: the table is lent out mutably only by `change`,
+/// which puts an open session away; nothing in a `Table` changes while it is shared; the rows lie on the heap, where they stay
+/// when the value moves; and the session is closed before the table is dropped.
 pub(crate) struct Opened {
     raw: RawSession,
+    /// A session that is open over rows which may be gone, or zero. It is only opened again or closed, which reads none of these.
+    put_away: RawSession,
     table: Table,
 }
 
@@ -268,8 +302,7 @@ unsafe impl Send for Opened {}
 
 impl Opened {
     pub(crate) fn closed(table: Table) -> Opened {
-        let raw = RawSession { is_open: false, inside: ptr::null_mut() };
-        Opened { raw, table }
+        Opened { raw: RawSession::closed(), put_away: RawSession::closed(), table }
     }
 
     pub(crate) fn is_open(&self) -> bool {
@@ -280,18 +313,21 @@ impl Opened {
         &self.table
     }
 
-    /// Opens a session over the rows, if none is open.
+    /// Opens a session over the rows, if none is open: the one that was put away, if there is one.
     pub(crate) fn open(&mut self) -> Result<(), Status> {
         if self.raw.is_open {
             return Ok(());
         }
         let rows = self.table.rows();
         let mut fault = RowFault::default();
-        // SAFETY: the handle is all zero, and so not open; the rows are lent with their lengths, and stay where they are, and
-        // what they are, until the session is closed (see `Opened`).
+        let mut raw = mem::replace(&mut self.put_away, RawSession::closed());
+        let open = if raw.is_open { mirfodwel_reopen } else { mirfodwel_open };
+        // SAFETY: the handle is all zero, and is opened; or only the library has written it, and it is opened again. The rows
+        // are lent with their lengths, and stay where they are, and what they are, until it is put away or closed (see
+        // `Opened`).
         let status = unsafe {
-            mirfodwel_open(
-                &mut self.raw,
+            open(
+                &mut raw,
                 rows.goals.as_ptr(),
                 rows.goals.len(),
                 rows.candidates.as_ptr(),
@@ -302,23 +338,19 @@ impl Opened {
             )
         };
         if status == DONE {
+            self.raw = raw;
             Ok(())
         } else {
+            self.put_away = raw;
             Err(status)
         }
     }
 
-    /// Closes the session, if one is open.
-    fn close(&mut self) {
-        if self.raw.is_open {
-            // SAFETY: the handle is open, and only the library has written it.
-            let _status = unsafe { mirfodwel_close(&mut self.raw) };
-        }
-    }
-
-    /// Closes the session, and lends the table to be changed.
+    /// Puts away the session, if one is open, and lends the table to be changed.
     pub(crate) fn change(&mut self) -> &mut Table {
-        self.close();
+        if self.raw.is_open {
+            self.put_away = mem::replace(&mut self.raw, RawSession::closed());
+        }
         &mut self.table
     }
 
@@ -362,6 +394,13 @@ impl Opened {
         })
     }
 
+    pub(crate) fn cause(&mut self, depth: usize, goal: u32) -> (Status, RawReason) {
+        let mut reason = RawReason::default();
+        // SAFETY: the handle is as in `ask`; `reason` is written alone, and what the library writes to its `bool`s are `bool`s.
+        let status = unsafe { mirfodwel_cause(&mut self.raw, depth, goal, &mut reason) };
+        (status, reason)
+    }
+
     pub(crate) fn last_fault(&mut self) -> (Status, Vec<u8>) {
         filled(128, |out, used| {
             // SAFETY: the handle is as in `ask`; the buffer has the length that is told.
@@ -379,6 +418,11 @@ impl Opened {
 
 impl Drop for Opened {
     fn drop(&mut self) {
-        self.close();
+        for raw in [&mut self.raw, &mut self.put_away] {
+            if raw.is_open {
+                // SAFETY: the handle is open, and only the library has written it.
+                let _status = unsafe { mirfodwel_close(raw) };
+            }
+        }
     }
 }

@@ -4,6 +4,7 @@
 mod error;
 mod ffi;
 mod graph;
+mod reason;
 mod session;
 mod solver;
 mod table;
@@ -11,6 +12,7 @@ pub mod texts;
 
 pub use error::{Cause, Error};
 pub use graph::{Edge, Graph, Node, Reply};
+pub use reason::{Cut, Reason, Why};
 pub use session::{Answer, NodeId, Outcome, Session};
 pub use solver::{Rules, Solver};
 pub use table::{Candidate, Goal, PathKind, Question, Table};

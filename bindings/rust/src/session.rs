@@ -2,6 +2,7 @@
 use crate::error::{in_words, Cause, Error};
 use crate::ffi::{self, Opened, RawAnswer, Status};
 use crate::graph::Graph;
+use crate::reason::Reason;
 use crate::table::{Goal, Table};
 use crate::texts::{Form, Lines};
 use std::fmt;
@@ -220,11 +221,35 @@ impl Session {
         }
     }
 
+    /// Asks the goal anew, apart from all that is known, and says why it is neither yes nor no, if it is neither.
+    ///
+    /// ```
+    /// use mirfodwel::{Session, Table, Why};
+    ///
+    /// let mut session = Session::open(Table::read("rule A = i:B\nrule B = i:C\nrule C =\n")?)?;
+    /// let [a, b, c] = ["A", "B", "C"].map(|name| session.table().goal(name).unwrap());
+    /// let reason = session.cause(a, 1)?;
+    /// let cut = reason.cut.unwrap();
+    /// assert_eq!((reason.why, cut.by, cut.asked), (Some(Why::NoDepth), b, c));
+    /// # Ok::<(), mirfodwel::Error>(())
+    /// ```
+    ///
+    /// # Errors
+    ///
+    /// [`Error::UnknownGoal`] where the table has no such goal, and [`Error::Fault`].
+    pub fn cause(&mut self, goal: Goal, depth: usize) -> Result<Reason, Error> {
+        match self.opened()?.cause(depth, goal.0) {
+            (ffi::DONE, raw) => Reason::of(&raw),
+            (ffi::FAULT, raw) => Err(fault(raw.fault, String::new())),
+            (status, _) => Err(of_goal(status, goal)),
+        }
+    }
+
     /// How many nodes of graphs are held.
     ///
     /// # Errors
     ///
-    /// [`Error::NoMemory`] where the session was closed by [`Session::change`], and memory was out as it was opened anew.
+    /// [`Error::NoMemory`] where the session is to be opened by this call, after [`Session::change`], and memory is out.
     pub fn held_nodes(&mut self) -> Result<usize, Error> {
         match self.opened()?.held() {
             (ffi::DONE, nodes) => Ok(nodes),
@@ -232,9 +257,16 @@ impl Session {
         }
     }
 
-    /// Lets the table be changed. What was known is forgotten: the session is closed, and opened anew by the next call.
+    /// Lets the table be changed. What was known is forgotten: the session is opened anew by the next call, with the memory that
+    /// it has.
     pub fn change<T>(&mut self, change: impl FnOnce(&mut Table) -> T) -> T {
         change(self.opened.change())
+    }
+
+    /// Makes it a session over another table, as good as a new one, with the memory that it has: many small tables take less
+    /// time so than with a session each. The table so far is given back.
+    pub fn reopen(&mut self, table: Table) -> Table {
+        self.change(|it| std::mem::replace(it, table))
     }
 
     /// Closes the session, and gives the table back.

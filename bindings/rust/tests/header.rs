@@ -5,7 +5,7 @@ use std::path::Path;
 /// The types of the parameters of each function, and of the fields of each struct with their names; types as Rust has them.
 type Declared = BTreeMap<String, Vec<String>>;
 
-const TYPES: [(&str, &str); 12] = [
+const TYPES: [(&str, &str); 13] = [
     ("mirfodwel_status", "Status"),
     ("mirfodwel_goal", "GoalRow"),
     ("mirfodwel_candidate", "CandidateRow"),
@@ -14,6 +14,7 @@ const TYPES: [(&str, &str); 12] = [
     ("mirfodwel_session", "RawSession"),
     ("mirfodwel_row_fault", "RowFault"),
     ("mirfodwel_answer", "RawAnswer"),
+    ("mirfodwel_reason", "RawReason"),
     ("uint8_t", "u8"),
     ("uint32_t", "u32"),
     ("uint64_t", "u64"),
@@ -93,7 +94,7 @@ fn declarations_are_those_of_the_header() {
     let (header, declared) = (header(), declarations());
     assert_eq!(header.0.keys().collect::<Vec<_>>(), declared.0.keys().collect::<Vec<_>>());
     assert_eq!(header, declared);
-    assert!(header.0.len() > 12 && header.1.len() == 7);
+    assert!(header.0.len() > 12 && header.1.len() == 8);
 }
 
 #[test]

@@ -1,7 +1,9 @@
 //! Sessions: what they own and give back, what they refuse, and which thread has them.
 mod cases;
 
-use mirfodwel::{texts, Candidate, Error, Form, Goal, Graph, Outcome, PathKind, Question, Reply, Session, Table};
+use mirfodwel::{
+    texts, Candidate, Cut, Error, Form, Goal, Graph, Outcome, PathKind, Question, Reply, Session, Table, Why,
+};
 
 const TEXT: &str = "rule A = i:B c:C\nrule B =\nrule C = c:A\nrule D = i:E\nrule E = i:D\nrule F = u:F\n";
 
@@ -72,6 +74,7 @@ fn what_is_not_there_is_an_error() {
     let unknown = Goal(6);
     assert_eq!(session.ask(unknown, 3), Err(Error::UnknownGoal(unknown)));
     assert_eq!(session.explain(Form::Text, unknown, 3), Err(Error::UnknownGoal(unknown)));
+    assert_eq!(session.cause(unknown, 3), Err(Error::UnknownGoal(unknown)));
     assert_eq!(session.table().goal("nobody"), None);
     assert_eq!((session.table().name(unknown), session.table().candidates(unknown)), (None, None));
     let node = session.ask(Goal(0), 3).unwrap().node.unwrap();
@@ -113,6 +116,25 @@ fn goals_become_known_in_rounds() {
     let answer = session.ask(goals[0], 3).unwrap();
     assert_eq!(session.graph(answer.node.unwrap()).unwrap().root().unwrap().edges().count(), 0);
     assert_eq!(session.close().candidates(goals[0]), Some(both.to_vec()));
+}
+
+#[test]
+fn a_session_goes_over_to_another_table() {
+    let mut session = session();
+    let goal = session.table().goal("A").unwrap();
+    let node = session.ask(goal, 10).unwrap().node.unwrap();
+    for _ in 0..3 {
+        let before = session.reopen(Table::read("rule X = i:X").unwrap());
+        assert_eq!(before, Table::read(TEXT).unwrap());
+        drop(before); // its rows are not read any more
+        assert_eq!((session.graph(node), session.held_nodes()), (Err(Error::UnknownNode), Ok(0)));
+        assert_eq!(outcome(&mut session, "X"), Outcome::No);
+        assert_eq!(session.ask(Goal(1), 10), Err(Error::UnknownGoal(Goal(1))));
+        session.reopen(Table::read(TEXT).unwrap());
+        assert_eq!(session.ask(goal, 10).unwrap().runs, 3);
+    }
+    session.reopen(Table::new());
+    assert!(session.close().is_empty());
 }
 
 #[test]
@@ -190,4 +212,34 @@ fn sessions_do_not_disturb_each_other() {
         }
     };
     std::thread::scope(|scope| (0..8).for_each(|_| drop(scope.spawn(work))));
+}
+
+#[test]
+fn causes_are_told() {
+    let mut session = session();
+    let goal = |session: &Session, name| session.table().goal(name).unwrap();
+    let (a, b, d, f) = (goal(&session, "A"), goal(&session, "B"), goal(&session, "D"), goal(&session, "F"));
+    for (asked, outcome) in [(a, Outcome::Yes), (d, Outcome::No)] {
+        let reason = session.cause(asked, 10).unwrap();
+        assert_eq!((reason.outcome, reason.why, reason.cut), (outcome, None, None));
+    }
+    let cycle = session.cause(f, 10).unwrap();
+    assert_eq!((cycle.outcome, cycle.why), (Outcome::Maybe, Some(Why::UnknownCycle)));
+    assert_eq!(cycle.cut, Some(Cut { by: f, kind: PathKind::Unknown, asked: f }));
+    let short = session.cause(a, 0).unwrap();
+    assert!(short.limits_met);
+    assert_eq!(short.why, Some(Why::NoDepth));
+    assert_eq!(short.cut, Some(Cut { by: a, kind: PathKind::Inductive, asked: b }));
+    assert_eq!(session.held_nodes(), Ok(0));
+
+    // What is not known is a cause of its own, with or without depth.
+    let open = session.change(|table| {
+        let open = table.add_goal().unwrap();
+        table.set_candidates(b, &[Candidate::new([Question::coinductive(open)])]).unwrap();
+        open
+    });
+    for depth in [2, 10] {
+        let reason = session.cause(a, depth).unwrap();
+        assert_eq!((reason.why, reason.cut.map(|it| it.by)), (Some(Why::NotKnown), Some(open)));
+    }
 }
