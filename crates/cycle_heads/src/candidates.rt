@@ -52,6 +52,11 @@ impl CandidateHeadUsages {
         self.as_slice().is_empty()
     }
 
+    /// How many bytes of the heap it holds.
+    pub fn held_bytes(&self) -> usize {
+        self.usages.held_bytes()
+    }
+
     /// The usages that are recorded for the head.
     pub fn get(&self, head: StackDepth) -> Option<HeadUsages>
         ensures { result ≡ at_depth self.now head }

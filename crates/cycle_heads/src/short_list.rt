@@ -2,6 +2,7 @@
 ghost use Rattle.std.specs.Prelude.{◌≡◌, ◌≤◌, ◌<◌, ◌++◌, ◌∷◌, [], drop, length, option_to_list, slice_set, take, IsSome, None, OnErr, OnOk};
 ghost use Rattle.std.specs.Mem.{FitsInMemory};
 
+use heap_room::list_bytes;
 use path_kinds::memory::NoMemory;
 use std::alloc::Global;
 use std::marker::Model;
@@ -97,6 +98,11 @@ impl<T: Copy> ShortList<T> {
     {
         self.only = None;
         self.more.clear();
+    }
+
+    /// How many bytes of the heap it holds.
+    pub(crate) fn held_bytes(&self) -> usize {
+        list_bytes(&self.more)
     }
 
     /// Makes room for so many elements in all. A refusal changes nothing, either.

@@ -6,10 +6,12 @@ ghost use Rattle.std.specs.Option.{option_map};
 ghost use Rattle.std.specs.Slice.Iter.{iter_rest};
 ghost use Rattle.goal_paths.specs.Below.{extended};
 ghost use Rattle.goal_paths.specs.Words.{after_step, paths_at, JoinsEach, JoinsPaths};
+ghost use Rattle.heap_room.specs.Bytes.{CoversBytes};
 
 use crate::mapped_goals::after_step;
 use crate::noted_goals::{Iter, NotedGoals};
 use bitflags::Flags;
+use heap_room::list_bytes;
 use path_kinds::memory::NoMemory;
 use path_kinds::path::{PathKind, PathsToNested};
 use std::alloc::Global;
@@ -61,6 +63,13 @@ impl<I: Eq + Hash + Copy> GoalList<I> {
         ensures { result ≡ length self.now }
     {
         self.goals.len()
+    }
+
+    /// How many bytes of the heap the list holds.
+    pub(super) fn held_bytes(&self) -> usize
+        ensures { CoversBytes (length self.now) result }
+    {
+        list_bytes(&self.goals)
     }
 
     /// The paths to the goal, where it is there.

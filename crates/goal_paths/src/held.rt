@@ -3,8 +3,10 @@ ghost use Rattle.std.specs.Prelude.{◌≡◌, [], length, false, IsTrue, None, 
 ghost use Rattle.std.specs.Option.{option_map};
 ghost use Rattle.goal_paths.specs.Below.{extended};
 ghost use Rattle.goal_paths.specs.Words.{after_step, held, paths_at, JoinsEach, JoinsPaths};
+ghost use Rattle.heap_room.specs.Bytes.{CoversBytes};
 
 use crate::noted_goals::NotedGoals;
+use heap_room::bytes_for;
 use path_kinds::memory::NoMemory;
 use path_kinds::path::{PathKind, PathsToNested};
 use std::alloc::Global;
@@ -17,6 +19,16 @@ pub fn len<I: Eq + Hash + Copy>(goals: &Option<Box<NotedGoals<I>>>) -> usize
 {
     match goals {
         Some(goals) => goals.len(),
+        None => 0,
+    }
+}
+
+/// How many bytes of the heap the box and the goals in it hold.
+pub fn held_bytes<I: Eq + Hash + Copy>(goals: &Option<Box<NotedGoals<I>>>) -> usize
+    ensures { CoversBytes (length (held goals.now)) result }
+{
+    match goals {
+        Some(goals) => bytes_for::<NotedGoals<I>>(1).saturating_add(goals.held_bytes()),
         None => 0,
     }
 }

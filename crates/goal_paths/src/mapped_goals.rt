@@ -6,10 +6,12 @@ ghost use Rattle.std.specs.List.{IsDistinct};
 ghost use Rattle.std.specs.Map.{keys_of};
 ghost use Rattle.goal_paths.specs.Below.{extended};
 ghost use Rattle.goal_paths.specs.Words.{after_step, paths_at, paths_noted, AreNoted, JoinsEach, JoinsPaths};
+ghost use Rattle.heap_room.specs.Bytes.{CoversBytes};
 
 use crate::noted_goals::NotedGoals;
 use crate::raises::{NotedPaths, Raises};
 use bitflags::Flags;
+use heap_room::map_bytes;
 use path_kinds::memory::NoMemory;
 use path_kinds::path::{PathKind, PathsToNested};
 use std::alloc::Global;
@@ -63,6 +65,13 @@ impl<I: Eq + Hash + Copy> MappedGoals<I> {
         ensures { result ≡ length self.now }
     {
         self.noted.len()
+    }
+
+    /// How many bytes of the heap the map holds.
+    pub(super) fn held_bytes(&self) -> usize
+        ensures { CoversBytes (length self.now) result }
+    {
+        map_bytes(&self.noted)
     }
 
     /// The paths to the goal, where it is there.

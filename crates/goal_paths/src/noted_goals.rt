@@ -5,9 +5,11 @@ ghost use Rattle.std.specs.List.{IsDistinct};
 ghost use Rattle.std.specs.Map.{keys_of};
 ghost use Rattle.goal_paths.specs.Below.{extended};
 ghost use Rattle.goal_paths.specs.Words.{after_step, paths_at, JoinsEach, JoinsPaths};
+ghost use Rattle.heap_room.specs.Bytes.{CoversBytes};
 
 use crate::goal_list::GoalList;
 use crate::mapped_goals::{self, MappedGoals};
+use heap_room::bytes_for;
 use path_kinds::memory::NoMemory;
 use path_kinds::path::{PathKind, PathsToNested};
 use std::alloc::Global;
@@ -60,6 +62,18 @@ impl<I: Eq + Hash + Copy> NotedGoals<I> {
         match &self.goals {
             Goals::Few(goals) => goals.len(),
             Goals::Many(goals) => goals.len(),
+        }
+    }
+
+    /// How many bytes of the heap the goals hold.
+    pub fn held_bytes(&self) -> usize
+        ensures { CoversBytes (length self.now) result }
+    {
+        match &self.goals {
+            Goals::Few(goals) => goals.held_bytes(),
+            Goals::Many(goals) => {
+                bytes_for::<MappedGoals<I>>(1).saturating_add(goals.held_bytes())
+            }
         }
     }
 

@@ -56,6 +56,11 @@ impl<I: Copy, R: Copy> LeanRuns<I, R> {
         self.chances = MOST_CHANCES;
     }
 
+    /// How many bytes of the heap the memory for it is.
+    pub fn held_bytes(&self) -> usize {
+        self.record.held_bytes()
+    }
+
     /// Whether it is worth to replay a run that had so many replies, before the node of this number is written. Where the
     /// call has written few nodes there is little to spare, and where it has written fewer than the run had replies,
     /// the replay could take longer than the search.

@@ -15,6 +15,7 @@ use crate::update::{
 };
 use cycle_heads::heads::CycleHeads;
 use cycle_heads::usages::HeadUsages;
+use heap_room::list_bytes;
 use path_kinds::path::{PathKind, PathsToNested};
 use run_records::progress::Progress;
 use run_records::runs::{Received, Run, step_run};
@@ -76,6 +77,13 @@ impl<X: Cx, F: Drop> OpenGoals<X, F> {
         ensures { result ≡ length self.now }
     {
         self.runs.len()
+    }
+
+    /// How many bytes of the heap the lists of goals and runs have room in, without what goals and runs hold.
+    pub fn room_bytes(&self) -> usize {
+        self.stack
+            .room_bytes()
+            .saturating_add(list_bytes(&self.runs))
     }
 
     /// The place of the goal, if it is under evaluation, counted from the first one up.

@@ -57,6 +57,7 @@ fn note_each_head<X: Cx>(
 
 /// Notes one head of an answer over a step: the entry's own goal, or another one on the stack. It counts
 /// for the candidate that is open, too.
+#[inline(always)]
 pub fn note_head<X: Cx>(
     state: &mut EntryState<X>,
     parent: StackDepth,

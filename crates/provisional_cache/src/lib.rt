@@ -24,6 +24,7 @@ mod rebasing;
 
 use cycle_heads::depth::StackDepth;
 use cycle_heads::heads::CycleHeads;
+use heap_room::map_bytes;
 use path_kinds::path::PathKind;
 use search_context::context::{Cx, Delegate, NoMemory, NodeId};
 use search_stack::stack::{Stack, StackEntry};
@@ -98,6 +99,11 @@ impl<D: Delegate> ProvisionalCache<D> {
             ↔ ((input : D.Cx.Input) → entries_at D.Cx.Input.eq self.now input ≡ []) }
     {
         self.lists.is_empty()
+    }
+
+    /// How many bytes of the heap the cache has room in, without what its entries hold.
+    pub fn room_bytes(&self) -> usize {
+        map_bytes(&self.lists)
     }
 
     /// The entries of the goal, the oldest first; none where it has none.

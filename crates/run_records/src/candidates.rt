@@ -2,6 +2,7 @@
 ghost use Rattle.std.specs.Prelude.{◌≡◌, ◌<◌, ◌++◌, ◌∷◌, [], length, slice_set, slice_get, OnOk, Some};
 
 use cycle_heads::candidates::CandidateHeadUsages;
+use heap_room::list_bytes;
 use search_context::context::NoMemory;
 use std::alloc::Global;
 use std::marker::Model;
@@ -69,6 +70,11 @@ impl FinishedCandidates {
     /// How many there are.
     pub(crate) fn len(&self) -> usize {
         self.usages.len()
+    }
+
+    /// How many bytes of the heap the list has room in, without what its candidates hold.
+    pub(crate) fn room_bytes(&self) -> usize {
+        list_bytes(&self.usages)
     }
 
     /// Takes out what the last one used.

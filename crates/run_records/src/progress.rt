@@ -6,6 +6,7 @@ ghost use Rattle.run_records.specs.Words.{HasTarget, begun, edges_of, fault_of, 
 
 mod lists;
 
+use heap_room::bytes_for;
 pub(crate) use lists::Lists;
 use path_kinds::path::PathKind;
 use search_context::context::{Edge, NoMemory, NodeId, Reply, Request, Verdict};
@@ -153,6 +154,7 @@ impl<I: Copy, R: Copy> Progress<I, R> {
     /// The edges that a result of this verdict rests on: those of its answers outside ignored
     /// candidates, in the order of asking. The list has no room to spare, since the node of the run has
     /// it for good.
+    #[inline(always)]
     pub fn edges(&self, verdict: Verdict) -> Result<Vec<Edge<I>>, NoMemory>
         ensures { IfOk result (λ edges. edges.items ≡ edges_of self.now verdict) }
     {
@@ -234,6 +236,14 @@ impl<I: Copy, R: Copy> Progress<I, R> {
         self.listed_replies().len()
     }
 
+    /// How many bytes of the heap the record holds.
+    pub fn held_bytes(&self) -> usize {
+        match &self.lists {
+            Some(lists) => boxed_bytes(lists),
+            None => 0,
+        }
+    }
+
     /// Forgets what was done, and keeps the memory.
     pub fn clear(&mut self)
         ensures { self.new ≡ no_record }
@@ -245,6 +255,11 @@ impl<I: Copy, R: Copy> Progress<I, R> {
             lists.clear();
         }
     }
+}
+
+/// How many bytes of the heap the lists hold, with their box.
+pub(crate) fn boxed_bytes<I: Copy, R: Copy>(lists: &Box<Lists<I, R>>) -> usize {
+    bytes_for::<Lists<I, R>>(1).saturating_add(lists.held_bytes())
 }
 
 /// The lists of a run that has only begun. It stays out of `receive`, which seldom makes any.

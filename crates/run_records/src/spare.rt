@@ -3,8 +3,9 @@ ghost use Rattle.std.specs.Prelude.{◌≡◌, []};
 ghost use Rattle.run_records.specs.Words.{no_record};
 
 use crate::candidates::FinishedCandidates;
-use crate::progress::{Lists, Progress};
+use crate::progress::{Lists, Progress, boxed_bytes};
 use cycle_heads::candidates::CandidateHeadUsages;
+use heap_room::list_bytes;
 use search_context::context::Reply;
 use std::alloc::Global;
 use std::marker::Model;
@@ -43,6 +44,23 @@ impl<I: Copy, R: Copy> SpareMemory<I, R> {
             candidates: Vec::new(alloc),
             usages: Vec::new(alloc),
         }
+    }
+
+    /// How many bytes of the heap it holds.
+    pub fn held_bytes(&self) -> usize {
+        let mut bytes = list_bytes(&self.lists)
+            .saturating_add(list_bytes(&self.candidates))
+            .saturating_add(list_bytes(&self.usages));
+        for lists in &self.lists {
+            bytes = bytes.saturating_add(boxed_bytes(lists));
+        }
+        for candidates in &self.candidates {
+            bytes = bytes.saturating_add(candidates.room_bytes());
+        }
+        for usages in &self.usages {
+            bytes = bytes.saturating_add(usages.held_bytes());
+        }
+        bytes
     }
 
     /// Lends the run lists of what it does, if it needs them for the reply that comes now.

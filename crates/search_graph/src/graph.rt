@@ -73,6 +73,12 @@ impl<D: Delegate> SearchGraph<D> {
         self.limits_met = false;
     }
 
+    /// How many bytes of the heap the graph holds: the memory that its last calls have left for the next one. What maps hold
+    /// is an estimate (`heap_room::map_bytes`).
+    pub fn held_bytes(&self) -> usize {
+        self.evaluation.room_bytes()
+    }
+
     /// Whether no goal is under evaluation, which is so between calls. Ports `SearchGraph::is_empty`.
     pub fn is_empty(&self) -> bool
         ensures { IsTrue result }

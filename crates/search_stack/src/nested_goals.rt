@@ -4,6 +4,7 @@ ghost use Rattle.std.specs.List.{IsDistinct};
 ghost use Rattle.std.specs.Map.{keys_of};
 ghost use Rattle.search_stack.specs.Below.{extended};
 ghost use Rattle.goal_paths.specs.Words.{paths_at, JoinsEach, JoinsPaths};
+ghost use Rattle.heap_room.specs.Bytes.{CoversBytes};
 
 use goal_paths::held;
 use goal_paths::noted_goals::{self, NotedGoals};
@@ -55,6 +56,13 @@ impl<X: Cx> NestedGoals<X> {
         ensures { result ≡ length self.now }
     {
         held::len(&self.goals)
+    }
+
+    /// How many bytes of the heap the goals hold.
+    pub fn held_bytes(&self) -> usize
+        ensures { CoversBytes (length self.now) result }
+    {
+        held::held_bytes(&self.goals)
     }
 
     /// Whether the goal is there. Ports `NestedGoals::contains`.

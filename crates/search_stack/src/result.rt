@@ -26,6 +26,7 @@ pub struct EvaluationResult<X: Cx> {
 impl<X: Cx> EvaluationResult<X> {
     /// The result of a goal that was popped from the stack. Required depth, heads and nested goals, which
     /// all its runs share, are those of its entry. Takes no memory. Ports `EvaluationResult::finalize`.
+    #[inline(always)]
     pub fn finalize(
         mut final_entry: StackEntry<X>,
         encountered_overflow: bool,

@@ -13,6 +13,7 @@ use cycle_heads::candidates::CandidateHeadUsages;
 use cycle_heads::heads::CycleHeads;
 use cycle_heads::usages::HeadUsages;
 use goal_paths::steps::LastSteps;
+use heap_room::{list_bytes, map_bytes};
 use path_kinds::path::PathKind;
 use search_context::context::{Cx, NoMemory, NodeId};
 use std::alloc::Global;
@@ -157,6 +158,13 @@ impl<X: Cx> Stack<X> {
         self.entries.is_empty()
     }
 
+    /// How many bytes of the heap the stack has room in, without what its entries hold.
+    pub fn room_bytes(&self) -> usize {
+        list_bytes(&self.entries)
+            .saturating_add(map_bytes(&self.depths))
+            .saturating_add(list_bytes(&self.steps))
+    }
+
     /// The place that the next goal gets.
     pub fn next_index(&self) -> StackDepth
         ensures { result.0 ≡ length self.now }
@@ -185,6 +193,7 @@ impl<X: Cx> Stack<X> {
     }
 
     /// Appends an entry whose input isn't on the stack. A refusal leaves the stack as it was.
+    #[inline(always)]
     pub fn push(&mut self, entry: StackEntry<X>) -> Result<StackDepth, NoMemory>
         requires absent { position_of X.Input.eq entry.input self.old ≡ None }
         ensures ok { IfOk result (λ d. (d.0 ≡ length self.old)
@@ -212,6 +221,7 @@ impl<X: Cx> Stack<X> {
     }
 
     /// Pops the last entry. It takes no memory, and a large stack that empties gives some back.
+    #[inline(always)]
     pub fn pop(&mut self) -> StackEntry<X>
         requires some { 0 < length self.old }
         ensures { self.old ≡ self.new ++ result ∷ [] }
@@ -244,6 +254,7 @@ impl<X: Cx> Stack<X> {
 }
 
 /// Notes where the next input will stand, and its step, and makes room for its entry. A refusal leaves all as it was.
+#[inline(always)]
 fn note_place<E, S: Copy, I: Eq + Hash + Copy>(
     entries: &mut Vec<E>,
     steps: &mut Vec<S>,

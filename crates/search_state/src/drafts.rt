@@ -3,6 +3,7 @@ ghost use Rattle.std.specs.Prelude.{◌≡◌, OnErr, OnOk};
 ghost use Rattle.search_state.specs.Drafts.{HasNoDrafts, noted};
 
 use global_cache::GlobalCache;
+use heap_room::list_bytes;
 use search_context::context::{Delegate, NoMemory, NodeId};
 use std::alloc::Global;
 
@@ -51,6 +52,11 @@ impl Drafts {
         self.stored.clear();
         self.held_before = cache.held_nodes();
         self.limit = self.held_before.saturating_add(FEW);
+    }
+
+    /// How many bytes of the heap the list of nodes has room in.
+    pub(crate) fn held_bytes(&self) -> usize {
+        list_bytes(&self.stored)
     }
 
     /// How many nodes the call has written, one for each run.

@@ -106,6 +106,17 @@ impl<D: Delegate> Evaluation<D> {
         self.empty();
     }
 
+    /// How many bytes of the heap it has room in, without what goals, scopes and entries hold: between calls there are none.
+    pub fn room_bytes(&self) -> usize {
+        self.goals
+            .room_bytes()
+            .saturating_add(self.scopes.room_bytes())
+            .saturating_add(self.provisional.room_bytes())
+            .saturating_add(self.drafts.held_bytes())
+            .saturating_add(self.spare.held_bytes())
+            .saturating_add(self.lean.held_bytes())
+    }
+
     /// Lets go of the goals, the scopes and the entries that are left, and of their memory.
     pub fn release(&mut self)
         ensures { self.new ≡ record self.old { goals = []; scopes = []; provisional = [] } }

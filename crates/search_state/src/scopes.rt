@@ -2,6 +2,7 @@
 ghost use Rattle.std.specs.Prelude.{◌≡◌, ◌↔◌, ◌∷◌, ◌<◌, [], length, IsTrue, OnOk, OnErr};
 ghost use Rattle.search_state.specs.Scopes.{held_over};
 
+use heap_room::list_bytes;
 use search_context::context::NoMemory;
 use std::alloc::Global;
 use std::marker::Model;
@@ -36,6 +37,11 @@ impl<S: Drop> HeldScopes<S> {
         ensures { IsTrue result ↔ (self.now ≡ []) }
     {
         self.scopes.is_empty()
+    }
+
+    /// How many bytes of the heap the list has room in, without what the scopes hold.
+    pub(crate) fn room_bytes(&self) -> usize {
+        list_bytes(&self.scopes)
     }
 
     /// Holds the scope, if there is one. Where that is refused, it is dropped at once.

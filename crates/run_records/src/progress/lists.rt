@@ -5,6 +5,7 @@ ghost use Rattle.run_records.specs.Below.{NodeId, ignored_by};
 ghost use Rattle.run_records.specs.Words.{HasTarget, begun, edges_of, going_on, no_record, received, rests_on};
 
 use crate::progress::{Beginning, DefiniteAnswer};
+use heap_room::list_bytes;
 use path_kinds::path::PathKind;
 use search_context::context::{Edge, NoMemory, NodeId, Reply, Request, Verdict};
 use std::alloc::Global;
@@ -169,6 +170,7 @@ impl<I: Copy, R: Copy> Lists<I, R> {
     /// The edges that a result of this verdict rests on: those of its answers outside ignored
     /// candidates, in the order of asking. The list has no room to spare, since the node of the run has
     /// it for good.
+    #[inline(always)]
     pub(super) fn edges(&self, verdict: Verdict) -> Result<Vec<Edge<I>>, NoMemory>
         ensures { IfOk result (λ edges. edges.items ≡ edges_of self.now verdict) }
     {
@@ -264,6 +266,13 @@ impl<I: Copy, R: Copy> Lists<I, R> {
     /// The replies so far, the oldest first.
     pub(super) fn replies_so_far(&self) -> &[Reply<R>] {
         self.replies.as_slice()
+    }
+
+    /// How many bytes of the heap they hold.
+    pub(crate) fn held_bytes(&self) -> usize {
+        list_bytes(&self.replies)
+            .saturating_add(list_bytes(&self.answers))
+            .saturating_add(list_bytes(&self.ignored))
     }
 
     /// Forgets what was done, and keeps the memory.
