@@ -5,3 +5,5 @@ pub mod Hits
 pub mod Stored
 pub mod Sound
 pub mod Collecting
+pub mod Forgotten
+pub mod Changed

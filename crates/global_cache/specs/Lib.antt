@@ -4,5 +4,6 @@ pub mod Cache
 pub mod Rooted
 pub mod Stored
 pub mod Sound
+pub mod Changed
 pub mod Below
 pub mod Words

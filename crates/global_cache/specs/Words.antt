@@ -1,5 +1,6 @@
 -- The words of this crate, from one place.
 pub use Rattle.global_cache.specs.Cache.{Cache}
+pub use Rattle.global_cache.specs.Changed.{is_among, KeepsOtherNodes, KeepsOtherResults, KeepsOthers}
 pub use Rattle.global_cache.specs.Hits.{first_accepted, hit_at, overflows, successes, usable}
 pub use Rattle.search_stack.specs.Hit.{Hit, hit_of}
 pub use Rattle.global_cache.specs.Rooted.{AreRooted}

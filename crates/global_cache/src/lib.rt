@@ -5,6 +5,7 @@
 //! |---|---|
 //! | `Cache`, `Sound` | what a cache holds, and what holds of every cache |
 //! | `Store`, `Hits` | the results that a cache stores, and which of them a look-up gives |
+//! | `Changed` | what stays of scripts, results and nodes where rules change |
 //! | `Stored`, `Rooted` | what each stored result is worth, and that its node is a root when nodes are let go |
 #![tactic(auto)]
 
@@ -16,6 +17,8 @@ use search_context::context::{Cx, Delegate};
 use std::alloc::Global;
 use std::marker::Model;
 
+mod bytes;
+mod change;
 mod collect;
 pub mod get;
 mod graph;
@@ -31,9 +34,9 @@ pub use search_stack::result::CacheData;
 
 /// The context of all searches over this cache, the nodes of their answers' graphs, and the results of
 /// goals. The list of nodes never gets shorter, and a node that is finished never changes, but that
-/// `collect` lets go of nodes to which nothing leads any more: no memory is held for these, and their
-/// numbers stay. Each result is right wherever it is used: what `insert` asks of it still holds. Ports
-/// `GlobalCache`.
+/// `collect` lets go of nodes to which nothing leads any more, and `change` of those of goals that are gone:
+/// no memory is held for these, and their numbers stay. Each result is right wherever it is used: what
+/// `insert` asks of it still holds. Ports `GlobalCache`.
 #[derive(Drop)]
 pub struct GlobalCache<D: Delegate> {
     cx: D::Cx,

@@ -1,14 +1,16 @@
 //! The map of the stored results, by goal and place.
-ghost use Rattle.std.specs.Prelude.{◌≡◌, [], None, OnOk, OnErr, Some};
+ghost use Rattle.std.specs.Prelude.{◌≡◌, ◌*◌, [], None, OnOk, OnErr, Some, filter, length, not};
 ghost use Rattle.std.specs.HashMap.{get, Updates};
 ghost use Rattle.std.specs.Option.{option_copied};
-ghost use Rattle.global_cache.specs.Words.{WithOverflow, stored_at, AnswersStoring, KeepsResults, Puts};
+ghost use Rattle.global_cache.specs.Words.{WithOverflow, is_among, stored_at, AnswersStoring, KeepsOtherResults, KeepsResults, Puts};
+ghost use Rattle.heap_room.specs.Bytes.{CoversBytes};
 
 use crate::results::{Place, StoredResult};
 use graph_nodes::room::is_far_more;
+use heap_room::map_bytes;
 use search_context::context::{Cx, Fault, NoMemory};
 use std::alloc::Global;
-use std::collections::HashMap;
+use std::collections::{HashMap, HashSet};
 use std::hash::Hash;
 use std::marker::Model;
 
@@ -52,6 +54,20 @@ impl<X: Cx> ResultStore<X> {
         }
         self.results.clear();
         self.has_overflow = false;
+    }
+
+    /// Forgets what is stored of goals that are gone. It takes no memory, and the map keeps its own for what comes.
+    pub(super) fn forget(&mut self, gone: &HashSet<X::Input>)
+        ensures { KeepsOtherResults X.Input.eq (is_among X.Input.eq gone.now.keys) self.old self.new }
+    {
+        forget_entries(&mut self.results, gone);
+    }
+
+    /// How many bytes of the heap the map holds, with the nested goals of each result. The time is linear in the results.
+    pub(super) fn held_bytes(&self) -> usize
+        ensures { CoversBytes (length self.now * 8) result }
+    {
+        map_bytes(&self.results).saturating_add(nested_bytes(&self.results))
     }
 
     /// What is stored of the goal at the place.
@@ -125,11 +141,35 @@ impl<X: Cx> ResultStore<X> {
     }
 }
 
+// How many bytes of the heap the nested goals of these results hold.
+fn nested_bytes<X: Cx>(results: &HashMap<(X::Input, Place), StoredResult<X>>) -> usize {
+    let mut bytes = 0_usize;
+    for stored in results.values() {
+        bytes = bytes.saturating_add(stored.nested_goals.held_bytes());
+    }
+    bytes
+}
+
 // The value at the key.
 fn entry_at<'a, K: Eq + Hash, V>(map: &'a HashMap<K, V>, key: &K) -> Option<&'a V>
     ensures { option_copied result ≡ get K.eq map.now key.now }
 {
     map.get(key)
+}
+
+// Forgets what stands at places of goals that are gone.
+fn forget_entries<I: Copy + Eq + Hash, V: Drop>(map: &mut HashMap<(I, Place), V>, gone: &HashSet<I>)
+    ensures { map.new.entries
+        ≡ filter (λ e. not (is_among I.eq gone.now.keys e.0.0)) map.old.entries }
+{
+    map.retain(|key, _| !is_gone(key, gone));
+}
+
+// Whether the goal at whose place something is stored is gone.
+fn is_gone<I: Copy + Eq + Hash>(key: &(I, Place), gone: &HashSet<I>) -> bool
+    ensures { result ≡ is_among I.eq gone.now.keys key.now.0 }
+{
+    gone.contains(&key.0)
 }
 
 // Puts the value at the key. Only where the key is new, memory can be refused.

@@ -101,6 +101,7 @@ module _ {I R : Type 0} (live : ℕ → Bool) (old new : List (CacheNode I R)) (
             ends = was.ends;
             yes = was.yes;
             no = was.no;
+            asked = was.asked;
             targets = λ i e at_i.
                 live_goal_stays e.target e.input
                 (edge_is_live at n run e alive there ended

@@ -41,7 +41,7 @@ module _ {A : Type 0} where
   ]
 
   -- what is kept was marked, and what was marked is kept
-  kept_from : (marked : List Bool) (xs : List A) (i : ℕ) (x : A) → slice_get (kept marked xs) i ≡ Some x
+  pub kept_from : (marked : List Bool) (xs : List A) (i : ℕ) (x : A) → slice_get (kept marked xs) i ≡ Some x
       → (j : ℕ) × (slice_get xs j ≡ Some x) × IsMarked marked j
   kept_from [] xs i x is = absurd cc
   kept_from (b ∷ marked) [] i x is = absurd cc
@@ -72,7 +72,7 @@ module _ {I R : Type 0} where
       let w = kept_from marked held j b at in rising.rises zero (suc w.0) a b (omega arith) is w.1
   rises_first marked h held rising rest (suc i) (suc j) a b lt is at = rest.rises i j a b (omega arith) is at
 
-  rising_kept : (marked : List Bool) (held : List (Held I R)) → IsRising held → IsRising (kept marked held)
+  pub rising_kept : (marked : List Bool) (held : List (Held I R)) → IsRising held → IsRising (kept marked held)
   rising_kept [] held rising = record { rises = λ i j a b lt is at. absurd cc }
   rising_kept (b ∷ marked) [] rising = record { rises = λ i j a b lt is at. absurd cc }
   rising_kept (false ∷ marked) (h ∷ held) rising = rising_kept marked held (rising_behind h held rising)

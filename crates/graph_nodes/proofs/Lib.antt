@@ -9,8 +9,11 @@ pub mod ValidCopies
 pub mod Finished
 pub mod Collecting
 pub mod HeldNodes
+pub mod HeldBytes
 pub mod SearchedNodes
 pub mod NearNodes
 pub mod MarkedNodes
 pub mod KeptNodes
 pub mod LetGo
+pub mod Forgotten
+pub mod Forgetting

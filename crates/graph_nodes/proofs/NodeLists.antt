@@ -33,6 +33,7 @@ IsRun-kept says script old new run kept h = record {
   ends = h.ends;
   yes = h.yes;
   no = h.no;
+  asked = h.asked;
   targets = λ i e is. kept e.target e.input (h.targets i e is);
 }
 

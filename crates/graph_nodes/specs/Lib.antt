@@ -2,10 +2,12 @@ pub mod Nodes
 pub mod HandedOut
 pub mod Found
 pub mod Collected
+pub mod Forgotten
 pub mod View
 pub mod Held
 pub mod Marked
 pub mod Shapes
 pub mod Definite
 pub mod Below
+pub mod Bytes
 pub mod Words

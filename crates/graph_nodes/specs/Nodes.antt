@@ -1,12 +1,13 @@
 -- The nodes of which graphs of answers are made. A node stands for one run of a goal. It is open until that run has
--- ended, and never changes from then on, but that it may be let go once nothing leads to it.
+-- ended, and never changes from then on, but that it may be let go once nothing leads to it or its goal is gone.
 use Rattle.std.specs.Prelude.{◌≡◌, ℕ, Bool, true, false, if◌then◌else◌, List, [], map, reverse, Option, None, Some}
-use Rattle.std.specs.Prelude.{slice_get, slice_set}
+use Rattle.std.specs.Prelude.{Contains, slice_get, slice_set}
 use Rattle.std.specs.Option.{option_map}
 use Rattle.search_context.specs.declared.context.Request.{Request}
 use Rattle.search_context.specs.declared.context.Reply.{Reply}
 use Rattle.search_context.specs.declared.context.Edge.{Edge}
-use Rattle.search_context.specs.Run.{EndsIn, progress_after, questions_answered}
+use Rattle.search_context.specs.Question.{Question}
+use Rattle.search_context.specs.Run.{EndsIn, Progress, progress_after, questions_answered}
 use Rattle.search_context.specs.Graph.{GraphNode, question_of}
 use Rattle.search_context.specs.Verdicts.{Verdicts}
 
@@ -70,9 +71,13 @@ KeepsFinished {I} {R} old new =
 abbrev pub KeepsGoals : {I R : Type 0} → List (CacheNode I R) → List (CacheNode I R) → Type 0
 KeepsGoals {I} old new = (at : ℕ) (goal : I) → IsNodeOf old at goal → IsNodeOf new at goal
 
+-- the question was asked and answered
+abbrev pub WasAsked : {I R : Type 0} → Progress I R → Question I → Type 0
+WasAsked p question = Contains (map (λ a. a.question) p.asked) question
+
 -- The run is one of this script: its replies end in its result, with no request out of order. Where the result is yes,
 -- the edges are the questions outside ignored candidates that were answered yes, in the order of asking; where it is
--- no, those that were answered no. Each edge leads to a node of the goal that it asks.
+-- no, those that were answered no. Each edge asks what the run asked, and leads to a node of the goal that it asks.
 pub record IsRun {I R : Type 0} (says : Verdicts R) (script : List (Reply R) → Request I R)
     (nodes : List (CacheNode I R)) (run : EndedRun I R) : Type 0 where
   pub ends : EndsIn script (reverse run.replies) run.outcome
@@ -80,6 +85,8 @@ pub record IsRun {I R : Type 0} (says : Verdicts R) (script : List (Reply R) →
       → map question_of run.edges ≡ questions_answered says.is_yes (progress_after script (reverse run.replies))
   pub no : says.is_no run.outcome ≡ true
       → map question_of run.edges ≡ questions_answered says.is_no (progress_after script (reverse run.replies))
+  pub asked : (i : ℕ) (e : Edge I) → slice_get run.edges i ≡ Some e
+      → WasAsked (progress_after script (reverse run.replies)) (question_of e)
   pub targets : (i : ℕ) (e : Edge I) → slice_get run.edges i ≡ Some e → IsNodeOf nodes e.target e.input
 
 -- each run of the list that has ended is one of its goal

@@ -1,8 +1,9 @@
 -- The words of this crate, from one place.
 pub use Rattle.graph_nodes.specs.Nodes.{AreRuns, CacheNode, ended_run, EndedRun, finished_node, goal_if_open, gone_node}
 pub use Rattle.graph_nodes.specs.Nodes.{graph_node_of, graph_nodes_of, IsNodeOf, IsRun, KeepsFinished, KeepsGoals}
-pub use Rattle.graph_nodes.specs.Nodes.{KeepsNodes, open_goal, open_node, with_run}
+pub use Rattle.graph_nodes.specs.Nodes.{KeepsNodes, open_goal, open_node, WasAsked, with_run}
 pub use Rattle.graph_nodes.specs.Collected.{AreLive, Collected, StayBefore, with_root}
+pub use Rattle.graph_nodes.specs.Forgotten.{is_among, KeepsOtherNodes}
 pub use Rattle.graph_nodes.specs.Definite.{HasGraph, HasNode}
 pub use Rattle.graph_nodes.specs.Found.{ArePlaced, Finds}
 pub use Rattle.graph_nodes.specs.HandedOut.{Copies, IsCopyFrom, IsWhole, KeepsWhole, original_node}

@@ -1,13 +1,17 @@
 //! The list of numbered nodes, of which only those are held that were not let go.
-ghost use Rattle.std.specs.Prelude.{◌≡◌, ◌∷◌, ◌++◌, ◌<◌, ℕ, Bool, [], length, count_by, slice_get, Some, IfOk, IsSome, MatchOption, OnOk, OnErr};
+ghost use Rattle.std.specs.Prelude.{◌≡◌, ◌∷◌, ◌++◌, ◌*◌, ◌<◌, ℕ, Bool, [], length, count_by, slice_get, Some, IfOk, IsSome, MatchOption, OnOk, OnErr};
 ghost use Rattle.std.specs.Option.{is_some, option_map};
-ghost use Rattle.graph_nodes.specs.Words.{open_node as new_node, open_goal, finished_node, with_run, ended_node, ended_run, node_of, is_held, with_root, AreLive, Collected, IsGone, StayBefore};
+ghost use Rattle.graph_nodes.specs.Words.{open_node as new_node, open_goal, finished_node, with_run, ended_node, ended_run, node_of, is_held, with_root, AreLive, Collected, IsGone, KeepsOtherNodes, StayBefore, is_among};
+ghost use Rattle.heap_room.specs.Bytes.{CoversBytes};
 
 use crate::held::{place_from, place_of};
 use crate::marking::{keep_from, marked_from};
 use crate::room::is_far_more;
+use heap_room::list_bytes;
 use search_context::context::{Edge, NoMemory, Node, NodeId, Reply};
 use std::alloc::Global;
+use std::collections::HashSet;
+use std::hash::Hash;
 use std::marker::Model;
 
 /// A node that is held.
@@ -27,6 +31,18 @@ impl<I: Copy, R: Drop> Slot<I, R> {
         match self {
             Slot::Open(input) => *input,
             Slot::Finished(node) => node.input,
+        }
+    }
+}
+
+impl<I, R> Slot<I, R> {
+    /// How many bytes of the heap the node's replies and edges hold.
+    fn run_bytes(&self) -> usize {
+        match self {
+            Slot::Open(_) => 0,
+            Slot::Finished(node) => {
+                list_bytes(&node.replies).saturating_add(list_bytes(&node.edges))
+            }
         }
     }
 }
@@ -64,6 +80,8 @@ impl<I, R> Model for NodeList<I, R> {
 }
 
 impl<I: Copy, R: Drop> NodeList<I, R> {
+    ghost use Rattle.graph_nodes.specs.Bytes.{node_bytes};
+
     /// No nodes. It takes no memory yet.
     pub fn new(alloc: Global) -> Self
         ensures { result ≡ [] }
@@ -92,6 +110,14 @@ impl<I: Copy, R: Drop> NodeList<I, R> {
         ensures { result ≡ count_by is_held self.now }
     {
         self.held.len()
+    }
+
+    /// How many bytes of the heap the list holds: its room, and the replies and the edges of the nodes. The time is linear
+    /// in the nodes that are held.
+    pub fn held_bytes(&self) -> usize
+        ensures { CoversBytes (count_by is_held self.now * node_bytes I.row R.row) result }
+    {
+        list_bytes(&self.held).saturating_add(run_bytes(self.held.as_slice()))
     }
 
     /// Appends an open node of the goal and answers its number.
@@ -194,4 +220,30 @@ impl<I: Copy, R: Drop> NodeList<I, R> {
         keep_from(&mut self.held, split, marked.as_slice());
         Ok(())
     }
+}
+
+impl<I: Copy + Eq + Hash, R: Drop> NodeList<I, R> {
+    /// Lets go of each node whose goal is gone, whether its run has ended or not. It takes no memory, and the list keeps
+    /// its own for the nodes that come.
+    pub fn forget(&mut self, gone: &HashSet<I>)
+        ensures { KeepsOtherNodes (is_among I.eq gone.now.keys) self.old self.new }
+    {
+        self.held.retain(|entry| !is_gone(entry, gone));
+    }
+}
+
+// Whether the node's goal is gone.
+fn is_gone<I: Copy + Eq + Hash, R: Drop>(entry: &Held<I, R>, gone: &HashSet<I>) -> bool
+    ensures { result ≡ is_among I.eq gone.now.keys (node_of entry.now.slot).goal }
+{
+    gone.contains(&entry.slot.input())
+}
+
+/// How many bytes of the heap the replies and the edges of these nodes hold.
+fn run_bytes<I, R>(held: &[Held<I, R>]) -> usize {
+    let mut bytes = 0_usize;
+    for node in held {
+        bytes = bytes.saturating_add(node.slot.run_bytes());
+    }
+    bytes
 }

@@ -1,2 +1,3 @@
 mod Within
 mod Ranks
+mod Kept

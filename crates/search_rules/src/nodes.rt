@@ -1,5 +1,5 @@
 //! The node of a run that has ended.
-ghost use Rattle.std.specs.Prelude.{◌≡◌, ◌↔◌, IsTrue, IfOk, OnOk, Some};
+ghost use Rattle.std.specs.Prelude.{◌≡◌, ◌≢◌, ◌↔◌, IsTrue, IfOk, OnOk, Some};
 ghost use Rattle.std.specs.Option.{option_map};
 ghost use Rattle.graph_nodes.specs.Nodes.{ended_run};
 ghost use Rattle.search_rules.specs.Below.{KeepsFinished, IsDefinite, edges_of, open_goal, verdict_of, verdicts, with_run, verdict_shape};
@@ -77,6 +77,7 @@ fn finish_by<D: Delegate>(
     requires placed { LeadToGoals cache.old.nodes told.now.answers }
     requires yes { (verdict ≡ Verdict.Yes) ↔ IsTrue (D.Cx.is_yes outcome) }
     requires no { (verdict ≡ Verdict.No) ↔ IsTrue (D.Cx.is_no outcome) }
+    requires definite { verdict ≢ Verdict.Neither }
     ensures ended { OnOk result (cache.new.nodes ≡ with_run cache.old.nodes node.0
         (ended_run told.now.replies (edges_of told.now verdict) outcome)) }
     ensures rest { cache.new ≡ record cache.old { nodes = cache.new.nodes } }

@@ -1,1 +1,2 @@
 pub mod Scripted
+mod Looped

@@ -124,6 +124,7 @@ impl Frames for Loops {
 
 /// Ends the run of an open node whose goal got this answer to its question of itself. The edge leads to
 /// the target, which is a node of the goal too. `NoMemory` leaves the cache as it was.
+#[tactic(auto, using(crate::proofs::Looped::loop_asks))]
 pub fn finish_towards(
     cache: &mut GlobalCache<LoopsDelegate>,
     alloc: Global,

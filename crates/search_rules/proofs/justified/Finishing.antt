@@ -3,9 +3,16 @@ use Rattle.run_records.specs.declared.runs.Fate.{Fate}
 use Rattle.std.proofs.Common.{◌≡◌, ◌≢◌, ℕ, suc, Bool, true, false, IsTrue, ◌↔◌, List, [], ◌∷◌, map, ◌++◌, length}
 use Rattle.std.proofs.Common.{is_some, Option, None, Some, option_map, slice_get, refl, sym, ap, ◌∙◌}
 use Rattle.std.proofs.Common.{subst, if◌then◌else◌}
+use Rattle.std.proofs.Common.{◌&&◌, Contains}
+use Rattle.std.specs.List.{filter}
 use Rattle.std.specs.Option.{IsSomeAnd}
 use Rattle.std.proofs.lemmas.List.{length-map}
 use Rattle.open_graphs.specs.Graph as theory
+use Rattle.graph_nodes.specs.Nodes.{WasAsked}
+use Rattle.list_lemmas.proofs.Members.{Contains-map, Contains-mapped, filtered_member}
+use Rattle.run_records.specs.Words.{Records}
+use Rattle.search_context.specs.Question.{Question}
+use Rattle.search_context.specs.Run.{is_counted, Progress}
 use Rattle.search_rules.specs.Below.{PathKind, Verdict, Yes, No, Neither, Edge, NodeId, Request, Reply, Begin, Answer}
 use Rattle.search_rules.specs.Below.{Noted, AvailableDepth, OpenGoal, StackEntry, question_of, EndsIn, progress_after}
 use Rattle.search_rules.specs.Below.{questions_answered, CacheNode, open_node, open_goal, with_run, IsNodeOf, IsRun}
@@ -195,10 +202,33 @@ answer_fits says nodes p below r step goal target asks may s kind asked is asks_
 
 -- ---- the run that a node is finished with
 
+-- what is answered in some way was asked
+answered_was_asked : {I R : Type 0} (test : R → Bool) (done : Progress I R) (question : Question I)
+    → Contains (questions_answered test done) question → WasAsked done question
+answered_was_asked test done question has =
+    let one = Contains-map (λ a. a.question) (filter (λ a. test a.answer && is_counted done.ignored a.candidate)
+    done.asked) question has in
+    subst (WasAsked done) one.2 (Contains-mapped (λ a. a.question) done.asked one.0
+    ((filtered_member (λ a. test a.answer && is_counted done.ignored a.candidate) done.asked one.0 one.1).0))
+
+-- what the edges of a definite verdict ask was asked
+edge_was_asked : {I R : Type 0} (says : Verdicts R) (script : List (Reply R) → Request I R) (p : RunRecord I R)
+    (replies : List (Reply R)) → Records says script p replies → (v : Verdict) → v ≢ Neither → (e : Edge I)
+    → Contains (edges_of p v) e → WasAsked (progress_after script replies) (question_of e)
+edge_was_asked says script p replies on_record Yes definite e has =
+    answered_was_asked says.is_yes (progress_after script replies) (question_of e)
+    (subst (λ l. Contains l (question_of e)) (yes_edges_are says script p replies on_record)
+    (Contains-mapped question_of (edges_of p Yes) e has))
+edge_was_asked says script p replies on_record No definite e has =
+    answered_was_asked says.is_no (progress_after script replies) (question_of e)
+    (subst (λ l. Contains l (question_of e)) (no_edges_are says script p replies on_record)
+    (Contains-mapped question_of (edges_of p No) e has))
+edge_was_asked says script p replies on_record Neither definite e has = absurd (definite refl)
+
 module _ {I R : Type 0} (says : Verdicts R) (scripts : I → List (Reply R) → Request I R) (nodes : List (CacheNode I R))
     (node : NodeId) (p : RunRecord I R) (r : R) (h : EndsRun says scripts nodes node p r)
     (placed : LeadToGoals nodes p.answers) (v : Verdict) (holds : (v ≡ Yes) ↔ IsTrue (says.is_yes r))
-    (fails : (v ≡ No) ↔ IsTrue (says.is_no r)) where
+    (fails : (v ≡ No) ↔ IsTrue (says.is_no r)) (definite : v ≢ Neither) where
   edge_placed : (i : ℕ) (e : Edge I) → slice_get (edges_of p v) i ≡ Some e → (j : ℕ) × (a : DefiniteAnswer I)
       × (slice_get p.answers j ≡ Some a) × (a.edge ≡ e) × (a.verdict ≡ v) × (counted_by p.ignored a.candidate ≡ true)
   edge_placed i e at =
@@ -225,6 +255,10 @@ module _ {I R : Type 0} (says : Verdicts R) (scripts : I → List (Reply R) → 
             (subst (λ w. map question_of (edges_of p w)
             ≡ questions_answered says.is_no (progress_after (scripts h.goal) h.ends.replies))
             (sym (fails.1 is)) (no_edges_are says (scripts h.goal) p h.ends.replies h.ends.on_record));
+        asked = λ i e at.
+            subst (λ replies. WasAsked (progress_after (scripts h.goal) replies) (question_of e)) (sym same)
+            (edge_was_asked says (scripts h.goal) p h.ends.replies h.ends.on_record v definite e
+            (contains_at (edges_of p v) i e at));
         targets = λ i e at.
             let w = edge_placed i e at in subst (λ x. IsNodeOf nodes x.target x.input) w.3 (placed w.0 w.1 w.2);
       }

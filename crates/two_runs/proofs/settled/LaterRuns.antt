@@ -174,7 +174,7 @@ module _ {X F I R A T : Type 0} (says : Verdicts R) (one_sort : (r : R) → says
 
     runs_then : AreRuns says scripts after
     runs_then = AreRuns-ended says scripts nodes s.1.node.0 ended_run (open_for_run says scripts nodes s.1.node
-        s.1.progress r run_ended run_placed sort.verdict sort.yes sort.no) runs
+        s.1.progress r run_ended run_placed sort.verdict sort.yes sort.no some_verdict) runs
 
     -- a node at which walks stop has the goal of its entry,
     stop_goal : (n : ℕ) (stop : Stops n) (goal : I) → IsNodeOf after n goal → stop.goal ≡ goal

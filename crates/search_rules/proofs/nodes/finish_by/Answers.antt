@@ -16,7 +16,8 @@ finish_node-requires-clause-is_open g c =
       outcome = c.args.outcome;
     })) (open_goal c.args.cache.now.nodes c.args.node.0)
     (open_for_run (verdicts g.D.Cx.Cx) (g.D.Delegate.script c.args.cache.now.cx) c.args.cache.now.nodes c.args.node
-    c.args.told.now c.args.outcome c.requires.ends c.requires.placed c.args.verdict c.requires.yes c.requires.no)
+    c.args.told.now c.args.outcome c.requires.ends c.requires.placed c.args.verdict c.requires.yes c.requires.no
+    c.requires.definite)
 
 pub finish_node-requires-clause-is_run : goal.finish_node-requires-clause-is_run
 finish_node-requires-clause-is_run g c =
@@ -39,7 +40,8 @@ finish_node-requires-clause-is_run g c =
       outcome = c.args.outcome;
     })) (open_goal c.args.cache.now.nodes c.args.node.0)
     (open_for_run (verdicts g.D.Cx.Cx) (g.D.Delegate.script c.args.cache.now.cx) c.args.cache.now.nodes c.args.node
-    c.args.told.now c.args.outcome c.requires.ends c.requires.placed c.args.verdict c.requires.yes c.requires.no)))
+    c.args.told.now c.args.outcome c.requires.ends c.requires.placed c.args.verdict c.requires.yes c.requires.no
+    c.requires.definite)))
 
 pub returns-clause-ended : goal.returns-clause-ended
 returns-clause-ended g c =
@@ -64,7 +66,8 @@ returns-clause-kept g c =
       edges = edges_of c.args.told.now c.args.verdict;
       outcome = c.args.outcome;
     })) (open_for_run (verdicts g.D.Cx.Cx) (g.D.Delegate.script c.args.cache.now.cx) c.args.cache.now.nodes c.args.node
-    c.args.told.now c.args.outcome c.requires.ends c.requires.placed c.args.verdict c.requires.yes c.requires.no))
+    c.args.told.now c.args.outcome c.requires.ends c.requires.placed c.args.verdict c.requires.yes c.requires.no
+    c.requires.definite))
 
 pub returns-clause-others : goal.returns-clause-others
 returns-clause-others g c = λ at other.
@@ -76,4 +79,4 @@ returns-clause-others g c = λ at other.
       outcome = c.args.outcome;
     })) (open_for_run (verdicts g.D.Cx.Cx) (g.D.Delegate.script c.args.cache.now.cx) c.args.cache.now.nodes c.args.node
     c.args.told.now c.args.outcome c.requires.ends c.requires.placed c.args.verdict
-    c.requires.yes c.requires.no) at other
+    c.requires.yes c.requires.no c.requires.definite) at other

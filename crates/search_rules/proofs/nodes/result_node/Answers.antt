@@ -29,6 +29,9 @@ finish_by-requires-clause-placed g c =
     c.args.own_node c.args.state.now.node c.args.progress.now c.args.outcome c.sort-verdict.result
     c.sort-verdict.ensures.yes c.sort-verdict.ensures.no c.in_default.not-Neither))
 
+pub finish_by-requires-clause-definite : goal.finish_by-requires-clause-definite
+finish_by-requires-clause-definite g c = c.in_default.not-Neither
+
 pub returns-clause-has_node : goal.returns-clause-has_node
 returns-clause-has_node g c =
     node_by (verdicts g.D.Cx.Cx) (g.D.Delegate.script c.args.cache.now.cx) c.args.cache.now.nodes c.args.own_node
