@@ -203,6 +203,8 @@ impl<F: Frames, const LIMIT: usize, const PROVISIONAL: usize> Delegate
         F::start(cx, input)
     }
 
+    // It is called where goals are worked out, whether or not they are watched, and so not inlined unasked.
+    #[inline(always)]
     fn step(
         frame: &mut F::Frame,
         reply: Reply<Outcome>,

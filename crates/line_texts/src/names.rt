@@ -46,6 +46,7 @@ impl Names {
     }
 
     /// The name's number.
+    #[inline(always)]
     pub fn number(&self, name: &[u8]) -> Option<usize>
         ensures { (n : ℕ) → (result ≡ Some n) ↔ (slice_get self.now n ≡ Some name.now) }
     {

@@ -11,6 +11,9 @@ use std::alloc::Global;
 
 mod groups;
 
+/// So many rules, and questions, as a small table has: its lists then do not grow from one to two, four and eight.
+const FEW: usize = 16;
+
 /// A rule, with its goal.
 #[derive(Clone, Copy)]
 pub(crate) struct DraftRule {
@@ -40,16 +43,18 @@ impl Draft {
     ghost use Rattle.rule_tables.specs.Question.{HasShortName, named};
     ghost use Rattle.rule_tables.specs.Draft.{Adds, HasAsked, IsDraftOf, IsMadeOf, Mentions, name_of};
 
-    /// A draft with no name in it.
-    pub(crate) fn new(alloc: Global) -> Draft
-        ensures { IsDraftOf [] result }
+    /// A draft with no name in it, which has room for a small table.
+    pub(crate) fn new(alloc: Global) -> Result<Draft, NoMemory>
+        ensures { IfOk result (IsDraftOf []) }
     {
-        Draft {
+        let rules = Vec::with_capacity(alloc, FEW)?;
+        let askings = Vec::with_capacity(alloc, FEW)?;
+        Ok(Draft {
             names: Names::new(alloc),
-            rules: Vec::new(alloc),
-            askings: Vec::new(alloc),
+            rules,
+            askings,
             questions: Vec::new(alloc),
-        }
+        })
     }
 
     /// One more candidate of the name.

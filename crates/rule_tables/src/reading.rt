@@ -42,7 +42,9 @@ impl Rules {
         ensures bad_line { (n : ℕ) → result ≡ Err (ReadFault.BadLine n) →
             IsFirstBadLine text.now n }
     {
-        let mut draft = Draft::new(alloc);
+        let Ok(mut draft) = Draft::new(alloc) else {
+            return Err(ReadFault::Memory);
+        };
         for (before, line) in text.split(|byte| *byte == b'\n').enumerate() {
             match read_line(alloc, line, &mut draft) {
                 Ok(()) => {}

@@ -36,6 +36,7 @@ fn link_at(links: &[u32], slot: usize) -> usize
 }
 
 /// Where the name stands in the list.
+#[inline(always)]
 pub(super) fn find(names: &[Name], heads: usize, links: &[u32], name: &Name) -> Option<usize>
     requires found { AreFound heads links.now names.now }
     ensures { (n : ℕ) →

@@ -19,7 +19,7 @@ loop-before-preserved c =
     c.split.ensures.closure (λ x b q k. search (rules, tests)))) c.enumerate-before-items.ensures.count))
     c.loop-before.yielded _ c.loop-before.yielded_by _ _ (c.in-Some.before, c.in-Some.line)
     c.in-Some.is c.next.ensures.steps) in
-    rw length_push (read_more _ _ _ _ _ c.loop-before.invariant at.1 c.in-Ok.ensures.ok)
+    rw length_push (read_more _ _ _ _ _ c.loop-before.invariant at.1 c.in-Ok-read_line.ensures.ok)
 
 pub returns-in-Err-Malformed-clause-bad_line : goal.returns-in-Err-Malformed-clause-bad_line
 returns-in-Err-Malformed-clause-bad_line c = λ n e.
