@@ -1,3 +1,9 @@
+pub mod Asking
+pub mod Chains
+pub mod Comparing
+pub mod Concerning
+pub mod Deciding
+pub mod Finding
 pub mod Steps
 pub mod Known
 pub mod Adding

@@ -3,3 +3,7 @@ pub mod Faults
 pub mod Rows
 pub mod Written
 pub mod Names
+pub mod Changes
+pub mod Compared
+pub mod Askers
+pub mod Found

@@ -14,12 +14,14 @@
 //! | `Names` | where a name stands in the names of a table |
 #![tactic(auto)]
 
+mod changes;
 mod delegate;
 mod faults;
 mod names;
 mod rows;
 mod table_rows;
 
+pub use changes::concerned;
 pub use delegate::{ArraysDelegate, RulesIn};
 pub use faults::{RowFault, first_fault};
 pub use names::find;
