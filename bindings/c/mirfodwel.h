@@ -27,8 +27,9 @@
  * OWNERSHIP. All arrays and buffers are yours before, in and after a call. A session owns what it has allocated, and
  * mirfodwel_close gives all of it back. Nothing else is held from one call to the next. Texts and names are read in the
  * call alone. But a session reads the rows that it was opened over in each call: from mirfodwel_open to mirfodwel_close they have to
- * stay where and as they are. To change rules or to add some, give the session its rows anew by mirfodwel_reopen, which does not
- * read those so far: they may be changed, or be gone, before that call, if no other one comes between.
+ * stay where and as they are. To change rules or to add some, give the session other rows: by mirfodwel_change, which reads those so
+ * far for the last time and keeps what still holds, or by mirfodwel_reopen, which does not read them: they may be changed, or be
+ * gone, before that call, if no other one comes between.
  *
  * THREADS. A session is one thread's at a time; another thread may go on with it behind a lock, a start or a join. All else may run
  * side by side: calls on texts, and sessions that are not the same, also over the same rows, which they only read. Call nothing
@@ -197,14 +198,14 @@ typedef struct {
 /* The answer to a question. With the status FAULT only `fault` tells something. */
 typedef struct {
     uint64_t started;  /* how many runs of goals were started; 0 where a stored result answers */
-    size_t node;       /* where `has_graph`: by which mirfodwel_graph finds the graph, until the session is closed or opened again */
+    size_t node;       /* where `has_graph`: by which mirfodwel_graph finds the graph, until the session forgets the goal */
     uint8_t outcome;   /* MIRFODWEL_YES, MIRFODWEL_NO, MIRFODWEL_MAYBE or MIRFODWEL_OVERFLOW */
     uint8_t fault;     /* MIRFODWEL_NO_FAULT, or with the status FAULT the fault */
     bool has_graph;    /* whether there is a node; each yes and each no has one */
     bool limits_met;   /* whether the depth or the number of runs was too small for some goal in this question */
 } mirfodwel_answer;
 
-/* Opens the session over these rows, which have to stay as they are until it is closed or opened again. Nothing is copied.
+/* Opens the session over these rows, which have to stay as they are until it is closed or has other rows. Nothing is copied.
    DONE. WRONG_STATE: it is open already. BAD_INPUT: `fault` is the first row that is not in order: a range that leads past the end of the
    next array, an `is_marked` above 1, a `kind` above 3, or a goal that there is not. NO_MEMORY. */
 mirfodwel_status mirfodwel_open(mirfodwel_session *session,
@@ -219,6 +220,20 @@ mirfodwel_status mirfodwel_open(mirfodwel_session *session,
    DONE. WRONG_STATE: it is not open. BAD_INPUT: `fault` is the first row that is not in order, and the session is still open over the
    rows so far, with all that it had worked out; where these were changed or are gone, only close it or open it again. */
 mirfodwel_status mirfodwel_reopen(mirfodwel_session *session,
+    const mirfodwel_goal *goals, size_t goals_length,
+    const mirfodwel_candidate *candidates, size_t candidates_length,
+    const mirfodwel_question *questions, size_t questions_length,
+    mirfodwel_row_fault *fault);
+
+/* Takes an open session over to these rows, and keeps what is known of goals that this does not concern: those whose candidates have
+   the marks and the questions that they had, in order, wherever their rows stand, and so has each goal that they can reach. Their
+   results are still stored, and the nodes of their answers stay, by the same numbers. All else is forgotten, and mirfodwel_graph no
+   longer knows those nodes. A goal is told by its place; one that one of the tables has not has no candidates there.
+   The call reads the rows so far for the last time. They have to be there still, unchanged, and may be changed or freed once it returned
+   DONE; the new rows may share arrays with them. It takes memory only for its own time, and that time is linear in both.
+   DONE. WRONG_STATE: it is not open. BAD_INPUT: `fault` is the first row that is not in order. NO_MEMORY. After the last two the
+   session is still open over the rows so far, with all that it had worked out. */
+mirfodwel_status mirfodwel_change(mirfodwel_session *session,
     const mirfodwel_goal *goals, size_t goals_length,
     const mirfodwel_candidate *candidates, size_t candidates_length,
     const mirfodwel_question *questions, size_t questions_length,
@@ -249,7 +264,8 @@ mirfodwel_status mirfodwel_check_graph(mirfodwel_session *session, uint32_t goal
     const uint64_t *words, size_t words_length, bool *is_valid);
 
 /* Writes which goals that are not known were asked for: just those of which a result is stored, in rising order. Where rules are worked
-   out on the way, make these known, in rows behind the others, open the session again over all, and ask again, until none is wanted.
+   out on the way, make these known, in rows behind the others, go over to all of them by mirfodwel_change, and ask again, until none is
+   wanted, which also counts goals that other questions asked for.
    `used` and `room` count goals. DONE. NO_ROOM. WRONG_STATE: it is not open. NO_MEMORY. */
 mirfodwel_status mirfodwel_wanted(mirfodwel_session *session, uint32_t *out, size_t room, size_t *used);
 
@@ -284,8 +300,9 @@ typedef struct {
     bool limits_met;   /* as there */
 } mirfodwel_reason;
 
-/* Says why the goal is neither yes nor no. It is asked anew, as by mirfodwel_explain_goal, and the session stores nothing of that. What
-   mirfodwel_ask answers rests also on what is stored, and where that is of questions with less depth it may be less.
+/* Says why the goal is neither yes nor no. It is asked anew, as by mirfodwel_explain_goal, and the session stores nothing of that; this
+   takes up to a third more instructions than mirfodwel_ask in a new session. What mirfodwel_ask answers rests also on what is stored, and
+   where that is of questions with less depth it may be less.
    DONE: `reason` has it. FAULT: `reason` has the fault. WRONG_STATE: it is not open. UNKNOWN: there is no such goal. */
 mirfodwel_status mirfodwel_cause(mirfodwel_session *session, size_t depth, uint32_t goal, mirfodwel_reason *reason);
 
@@ -293,9 +310,13 @@ mirfodwel_status mirfodwel_cause(mirfodwel_session *session, size_t depth, uint3
    DONE. NO_ROOM. WRONG_STATE: it is not open. NO_MEMORY. */
 mirfodwel_status mirfodwel_last_fault(mirfodwel_session *session, uint8_t *out, size_t room, size_t *used);
 
-/* How many nodes of graphs the session holds, by which its memory grows from question to question. DONE. WRONG_STATE: it is not
-   open. */
+/* How many nodes of graphs the session holds. DONE. WRONG_STATE: it is not open. */
 mirfodwel_status mirfodwel_held(mirfodwel_session *session, size_t *nodes);
+
+/* How many bytes of the heap the session holds: what it has asked malloc and realloc for, and not freed. Where it keeps tables that
+   were emptied, it may tell some less. The time grows with the nodes that are held and the results that are stored. DONE.
+   WRONG_STATE: it is not open. */
+mirfodwel_status mirfodwel_held_bytes(mirfodwel_session *session, size_t *bytes);
 
 /* Gives back all memory of the session, which is all zeros then; its nodes' numbers mean nothing any more. DONE. WRONG_STATE: it is not
    open. */

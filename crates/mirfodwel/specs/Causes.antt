@@ -92,9 +92,10 @@ pub record IsWatched (inside : Inside) (goal : ℕ) (came : Came) : Type 0 where
   pub right : IfOk came (λ caused. IsRightOutcome (rows_in inside) goal caused.outcome)
   pub reason : IfOk came (HasReason (rows_in inside))
 
--- The goal was asked anew, and what it came to is told with its reason; or there is no such goal.
-pub data TellsCause (Promised : Came → Type 0) (inside : Inside) (goal : ℕ) (cause told : Cause) (status : ℕ) :
+-- The goal was asked anew, as the search promises, and what it came to is told with its reason; or there is no such
+-- goal.
+pub data TellsCause (IsPromised : Came → Type 0) (inside : Inside) (goal : ℕ) (cause told : Cause) (status : ℕ) :
     Type 0 where
-  Told : (came : Came) → goal < goals_in inside → Promised came → told ≡ cause_of came → status ≡ status_of came
-      → TellsCause Promised inside goal cause told status
-  NoGoal : goals_in inside ≤ goal → told ≡ cause → status ≡ 7 → TellsCause Promised inside goal cause told status
+  Told : (came : Came) → goal < goals_in inside → IsWatched inside goal came → IsPromised came
+      → told ≡ cause_of came → status ≡ status_of came → TellsCause IsPromised inside goal cause told status
+  NoGoal : goals_in inside ≤ goal → told ≡ cause → status ≡ 7 → TellsCause IsPromised inside goal cause told status

@@ -1,6 +1,6 @@
 //! Why goals are neither yes nor no.
 ghost use Rattle.std.specs.Prelude.{◌≡◌, Err, MatchOption, Ok};
-ghost use Rattle.mirfodwel.specs.Causes.{IsWatched, TellsCause, cause_number, cause_of, cut_of, kind_of};
+ghost use Rattle.mirfodwel.specs.Causes.{TellsCause, cause_number, cause_of, cut_of, kind_of};
 ghost use Rattle.rule_arrays.specs.Rows.{number_of as number_of_kind};
 ghost use Rattle.sessions.specs.Causes.{IsToldAnew};
 
@@ -10,12 +10,11 @@ use crate::inside::Inside;
 use crate::lent::Lent;
 use crate::status::{DONE, FAULT, UNKNOWN, WRONG_STATE};
 use candidate_lists::CandidatesContext;
-use rule_arrays::{ArraysDelegate, RulesIn};
+use rule_arrays::RulesIn;
 use search_parts::context::{Cx, Delegate};
 use search_parts::path::PathKind;
-use sessions::{Cause as Noted, Caused, Cut, Fault, Outcome, Reason};
+use sessions::{Cause as Noted, Caused, Cut, Fault, Outcome, Reason, WatchedRows};
 use std::alloc::Global;
-use watched_runs::{NoProgress, Watching};
 
 /// What a goal came to, and why that is neither yes nor no.
 #[repr(C)]
@@ -43,7 +42,7 @@ pub struct Cause {
 }
 
 /// Why the goal of this number is neither yes nor no, if it is neither. It is asked at this depth over a cache of its own, so
-/// that nothing is kept.
+/// that nothing is kept. It takes up to a third more instructions than `mirfodwel_ask` in a new session.
 ///
 /// `FAULT` where that met a fault. `WRONG_STATE` where the session is not open, and `UNKNOWN` where there is no such
 /// goal: `cause` is not changed.
@@ -56,10 +55,9 @@ pub extern "C" fn mirfodwel_cause(
     cause: &mut Cause,
 ) -> u8
     ensures told { MatchOption handle.old.address.inside ((result ≡ 6) × (cause.new ≡ cause.old))
-        (λ inside. TellsCause (λ came. IsWatched inside goal came
-        × IsToldAnew ⟦<Watching<CandidatesContext<RulesIn<Lent>>, ArraysDelegate<Lent>, NoProgress> as Delegate>⟧
-        ⟦<CandidatesContext<RulesIn<Lent>> as Cx>⟧ ⟦<u32 as PartialEq>⟧.eq ⟦<Outcome as PartialEq>⟧.eq
-        inside.session.cache.cx depth goal came)
+        (λ inside. TellsCause (IsToldAnew
+        ⟦<WatchedRows<Lent> as Delegate>⟧ ⟦<CandidatesContext<RulesIn<Lent>> as Cx>⟧
+        ⟦<u32 as PartialEq>⟧.eq ⟦<Outcome as PartialEq>⟧.eq inside.session.cache.cx depth goal)
         inside goal cause.old cause.new result) }
     ensures same { handle.new.address.inside ≡ handle.old.address.inside }
 {
@@ -72,10 +70,9 @@ pub extern "C" fn mirfodwel_cause(
 }
 
 fn tell_cause(inside: &Inside, depth: usize, goal: u32, cause: &mut Cause) -> u8
-    ensures { TellsCause (λ came. IsWatched inside.now goal came
-        × IsToldAnew ⟦<Watching<CandidatesContext<RulesIn<Lent>>, ArraysDelegate<Lent>, NoProgress> as Delegate>⟧
-        ⟦<CandidatesContext<RulesIn<Lent>> as Cx>⟧ ⟦<u32 as PartialEq>⟧.eq ⟦<Outcome as PartialEq>⟧.eq
-        inside.now.session.cache.cx depth goal came)
+    ensures { TellsCause (IsToldAnew
+        ⟦<WatchedRows<Lent> as Delegate>⟧ ⟦<CandidatesContext<RulesIn<Lent>> as Cx>⟧
+        ⟦<u32 as PartialEq>⟧.eq ⟦<Outcome as PartialEq>⟧.eq inside.now.session.cache.cx depth goal)
         inside.now goal cause.old cause.new result }
 {
     if !inside.has_goal(goal) {

@@ -19,7 +19,9 @@
 mod address;
 mod asking;
 mod buffers;
+mod bytes;
 mod causes;
+mod changing;
 mod explaining;
 mod graphs;
 mod handle;

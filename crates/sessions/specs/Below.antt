@@ -24,10 +24,11 @@ pub use Rattle.search_context.specs.declared.context.Verdict.{Verdict}
 pub use Rattle.graph_nodes.specs.Definite.{HasGraph}
 pub use Rattle.graph_nodes.specs.HandedOut.{IsCopyFrom, IsWhole}
 pub use Rattle.graph_nodes.specs.Nodes.{CacheNode, graph_nodes_of, KeepsFinished, KeepsNodes}
-pub use Rattle.graph_nodes.specs.Held.{is_held}
+pub use Rattle.graph_nodes.specs.Held.{is_held, IsGone}
 pub use Rattle.global_cache.specs.Cache.{Cache}
 pub use Rattle.global_cache.specs.Hits.{first_accepted, usable}
 pub use Rattle.global_cache.specs.Store.{Store, stored_at}
+pub use Rattle.global_cache.specs.declared.results.Place.{Place}
 pub use Rattle.global_cache.specs.declared.results.Place.TheVariants.{Success, WithOverflow}
 pub use Rattle.global_cache.specs.declared.results.StoredResult.{StoredResult}
 pub use Rattle.search_graph.specs.Below.{IsPaid}

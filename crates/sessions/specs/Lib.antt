@@ -4,3 +4,4 @@ pub mod Shown
 pub mod Questions
 pub mod Known
 pub mod Causes
+pub mod Changed

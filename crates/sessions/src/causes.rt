@@ -9,9 +9,9 @@ ghost use Rattle.watched_runs.specs.Reasons.{IsReason};
 
 use crate::asking::Asked;
 use crate::session::is_unknown;
-use candidate_lists::CandidateLists;
+use candidate_lists::{CandidateLists, CandidatesContext};
 use delegate_parts::{Builder, Outcome};
-use rule_arrays::{LendsArrays, RulesIn};
+use rule_arrays::{ArraysDelegate, LendsArrays, RulesIn};
 use search_graph::graph::SearchGraph;
 use search_graph::law::limits::price;
 use search_parts::context::{Cx, Delegate, Fault};
@@ -19,6 +19,9 @@ use search_parts::global_cache::GlobalCache;
 use search_parts::path::PathKind;
 use std::alloc::Global;
 use watched_runs::{Cut, NoProgress, Reason, Watcher, Watching};
+
+/// The delegate of the goals of rows, with a builder that watches.
+pub type WatchedRows<L> = Watching<CandidatesContext<RulesIn<L>>, ArraysDelegate<L>, NoProgress>;
 
 /// What a goal came to over a cache of its own, and why that is neither yes nor no.
 #[derive(Clone, Copy)]

@@ -11,6 +11,7 @@
 //! | `Shown` | what the words of a graph show |
 //! | `Causes` | why a goal is neither yes nor no |
 //! | `Known` | the rules and the nodes of a session, and which goals are wanted |
+//! | `Changed` | what a session knows once it went over to rows that changed |
 #![tactic(auto)]
 
 mod asking;
@@ -19,7 +20,7 @@ mod graphs;
 mod session;
 
 pub use asking::Asked;
-pub use causes::Caused;
+pub use causes::{Caused, WatchedRows};
 pub use delegate_parts::Outcome;
 pub use rule_arrays::{
     Arrays, ArraysDelegate, CandidateRow, GoalRow, LendsArrays, NOT_KNOWN, QuestionRow, RulesIn,

@@ -1,7 +1,8 @@
 //! What is known of rules, and what is asked of that.
-ghost use Rattle.std.specs.Prelude.{◌≡◌, ◌↔◌, ◌^◌, ℕ, List, [], Option, true, filter, length, min, IfErr, IfOk, IfSome, IsSome, IsTrue, None, Ok, OnOk, Some, count_by, slice_get};
+ghost use Rattle.std.specs.Prelude.{◌≡◌, ◌↔◌, ◌*◌, ◌^◌, ℕ, List, [], Option, true, filter, length, min, IfErr, IfOk, IfSome, IsSome, IsTrue, None, Ok, OnOk, Some, count_by, slice_get};
 ghost use Rattle.std.specs.List.{range_with_len};
 ghost use Rattle.std.specs.Option.{IsSomeAnd};
+ghost use Rattle.heap_room.specs.Bytes.{CoversBytes};
 ghost use Rattle.sessions.specs.Below.{GraphNode, HasGraph, IsProofGraph, IsRefutationGraph, IsWhole, KeepsNodes, No, NodeId as SpecNodeId, Outcome as SpecOutcome, Yes, is_held, outcome_verdicts};
 ghost use Rattle.sessions.specs.Causes.{HasReason, IsRightOutcome, IsToldAnew};
 ghost use Rattle.sessions.specs.Known.{has_result, is_wanted, nodes_of, rules_of};
@@ -9,8 +10,10 @@ ghost use Rattle.sessions.specs.Questions.{IsAsked};
 ghost use Rattle.sessions.specs.Rules.{IsRightAnswer, is_row_unknown, proves, refutes, scripts_of};
 ghost use Rattle.sessions.specs.Shown.{AreValidFor, AreWordsFrom};
 
+mod changing;
+
 use crate::asking::{Asked, ask};
-use crate::causes::{Caused, ask_watched, with_reason};
+use crate::causes::{Caused, WatchedRows, ask_watched, with_reason};
 use crate::graphs::{graph_words, is_shown};
 use candidate_lists::{AnyOf, CandidatesContext, ContextOf};
 use delegate_parts::Outcome;
@@ -19,10 +22,9 @@ use search_graph::graph::SearchGraph;
 use search_parts::context::{Cx, Delegate, Fault, NoMemory, NodeId, Verdict};
 use search_parts::global_cache::GlobalCache;
 use std::alloc::Global;
-use watched_runs::{NoProgress, Watching};
 
 /// What is known of the goals of the rules that an `L` lends, as `Arrays` does: what one question finds out is used in the
-/// next ones. The rows must not change while it lives.
+/// next ones. The rows must not change while it is over them.
 #[derive(Drop)]
 pub struct Session<L: LendsArrays> {
     cache: GlobalCache<ArraysDelegate<L>>,
@@ -104,7 +106,7 @@ impl<L: LendsArrays> Session<L> {
     }
 
     /// Why the goal is neither yes nor no, if it is neither: it is asked at this depth over a cache of its own, and watched. So
-    /// nothing is stored, and the time is that of a question of which nothing is known yet.
+    /// nothing is stored. To watch a question takes up to a third more instructions than to ask one of which nothing is known.
     ///
     /// The same faults as of `ask`; they are not remembered.
     pub fn cause(&self, depth: usize, goal: u32) -> Result<Caused, Fault<u32, Outcome>>
@@ -113,8 +115,8 @@ impl<L: LendsArrays> Session<L> {
         ensures reason { IfOk result (HasReason (rules_of L.table_of self.now)) }
 
         // What else the search promises of a question where nothing is known.
-        ensures told { IsToldAnew ⟦<Watching<CandidatesContext<RulesIn<L>>, ArraysDelegate<L>, NoProgress> as Delegate>⟧
-            ⟦<CandidatesContext<RulesIn<L>> as Cx>⟧ ⟦<u32 as PartialEq>⟧.eq ⟦<Outcome as PartialEq>⟧.eq
+        ensures told { IsToldAnew ⟦<WatchedRows<L> as Delegate>⟧ ⟦<CandidatesContext<RulesIn<L>> as Cx>⟧
+            ⟦<u32 as PartialEq>⟧.eq ⟦<Outcome as PartialEq>⟧.eq
             self.now.cache.cx depth goal result }
     {
         let cx = self.cache.cx();
@@ -213,6 +215,19 @@ impl<L: LendsArrays> Session<L> {
         ensures { result ≡ count_by is_held (nodes_of self.now) }
     {
         self.cache.held_nodes()
+    }
+
+    /// How many bytes of the heap the session holds: what it knows, and the memory that questions have left for the next ones.
+    /// `GlobalCache::held_bytes` and `SearchGraph::held_bytes` say what that comes to. The time is linear in the nodes that are
+    /// held and the results that are stored.
+    pub fn held_bytes(&self) -> usize
+        // Each node that is held counts with 72 bytes at least, and each stored result with 8.
+        ensures nodes { CoversBytes (count_by is_held (nodes_of self.now) * 72) result }
+        ensures results { CoversBytes (length self.now.cache.results * 8) result }
+    {
+        self.cache
+            .held_bytes()
+            .saturating_add(self.graph.held_bytes())
     }
 
     /// The fault that was met last, if any was.

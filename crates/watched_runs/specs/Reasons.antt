@@ -27,4 +27,4 @@ IsReason is_run is_limited outcome Known = is_run ≡ false
 IsReason is_run is_limited outcome Runs = (is_run ≡ true) × (is_limited ≡ true) × (outcome ≡ Overflow)
 IsReason is_run is_limited outcome (Cut cut) =
     (is_run ≡ true) × (is_limit cut.cause ≡ true → is_limited ≡ true) × (outcome ≡ Maybe)
-IsReason is_run is_limited outcome Unnoted = is_run ≡ true
+IsReason is_run is_limited outcome Unnoted = (is_run ≡ true) × (is_limited ≡ true → outcome ≡ Overflow → ⊥)

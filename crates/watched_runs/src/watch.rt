@@ -74,7 +74,8 @@ pub enum Reason<I> {
     Runs,
     /// It was worked out before.
     Known,
-    /// None was noted. No search over goals with candidates comes to that.
+    /// None was noted. That is proved impossible only of an overflow of a call that met a limit; no search over goals with
+    /// candidates was seen to come to it.
     Unnoted,
 }
 
