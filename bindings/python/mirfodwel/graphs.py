@@ -2,6 +2,7 @@
 
 from __future__ import annotations
 
+import re
 import shutil
 import subprocess
 from typing import TYPE_CHECKING, Any, Callable, Hashable, NamedTuple, Optional, Sequence
@@ -13,6 +14,8 @@ if TYPE_CHECKING:
 
 _SHAPES = dict(zip(OUTCOMES, ("box", "octagon", "diamond", "hexagon")))
 _STYLES = dict(zip(KINDS, ("solid", "dotted", "dashed", "bold")))
+# No picture can have these, since it is XML.
+_NOT_DRAWN = re.compile("[^\t\n -\ud7ff\ue000-\ufffd\U00010000-\U0010ffff]")
 
 
 class Edge(NamedTuple):
@@ -47,7 +50,8 @@ def _nodes(words: Sequence[int], goal_at: Callable[[int], Hashable]) -> list[Nod
 
 
 def _quoted(text: str) -> str:
-    return '"' + text.replace("\\", "\\\\").replace('"', '\\"').replace("\n", "\\n") + '"'
+    drawn = _NOT_DRAWN.sub("\ufffd", text).replace("&", "&amp;").replace("\\", "\\\\")
+    return '"' + drawn.replace('"', '\\"').replace("\n", "\\n") + '"'
 
 
 class Graph:

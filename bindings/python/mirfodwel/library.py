@@ -79,6 +79,7 @@ _ARGUMENTS = {
     "read": (*_IN, *_ROWS, *_ROWS, *_ROWS, *_ROWS, POINTER(Sizes), POINTER(c_size_t)),
     "open": (_SESSION, *_ROWS, *_ROWS, *_ROWS, POINTER(RowFault)),
     "reopen": (_SESSION, *_ROWS, *_ROWS, *_ROWS, POINTER(RowFault)),
+    "change": (_SESSION, *_ROWS, *_ROWS, *_ROWS, POINTER(RowFault)),
     "ask": (_SESSION, c_size_t, c_uint32, POINTER(AnswerRow)),
     "graph": (_SESSION, c_size_t, *_OUT),
     "check_graph": (_SESSION, c_uint32, c_uint8, *_ROWS, POINTER(c_bool)),
@@ -87,6 +88,7 @@ _ARGUMENTS = {
     "cause": (_SESSION, c_size_t, c_uint32, POINTER(ReasonRow)),
     "last_fault": (_SESSION, *_OUT),
     "held": (_SESSION, POINTER(c_size_t)),
+    "held_bytes": (_SESSION, POINTER(c_size_t)),
     "close": (_SESSION,),
 }
 

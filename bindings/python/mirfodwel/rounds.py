@@ -52,19 +52,24 @@ def solve(
     """Whether the goal holds, where candidates(goal) gives the candidates of a goal, in the form that `Table.add` takes.
 
     It is called once for each goal at most, and for some that turn out not to be asked. Where it returns None, the goal is
-    answered maybe. It works in rounds, each of which asks anew with twice as many goals known, until the answer is yes or no,
-    no other goal is wanted, or `most_goals` are known. After each round progress(solution so far) is called. What that or
-    `candidates` raises ends it, as does Ctrl-C, which is heard of between calls of the library. The way to goals that are not known
-    yet is kept for each goal, so memory may grow as the square of the depth: a GB or more where 16,000 goals are nested.
+    answered maybe. It works in rounds, each of which asks again with twice as many goals known, until the answer is yes or no,
+    no other goal is wanted, or `most_goals` are known. What rests on known goals alone is not worked out again. After each
+    round progress(solution so far) is called. What that or `candidates` raises ends it, as does Ctrl-C, which is heard of between
+    calls of the library. The way to goals that are not known yet is kept for each goal, so memory may grow as the square of the
+    depth: a GB or more where 16,000 goals are nested.
     """
     table = Table(is_open=True)
     table.mention(goal)
     known: set[Hashable] = set()
     wanted, rounds = [goal], 0
+    session: Optional[Session] = None
     while True:
         _grow(table, candidates, wanted, known, max(1, most_goals))
         rounds += 1
-        session = Session(table)
+        if session is None:
+            session = Session(table)
+        else:
+            session.change(table)
         answer = session.ask(goal, depth)
         is_decided = answer.outcome in ("yes", "no")
         wanted = [] if is_decided else [each for each in session.wanted() if each not in known]
@@ -73,4 +78,3 @@ def solve(
             progress(solution)
         if not wanted or len(known) >= most_goals:
             return solution
-        session.close()

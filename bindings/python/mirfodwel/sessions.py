@@ -26,8 +26,8 @@ class Answer:
 
     @property
     def graph(self) -> Optional[Graph]:
-        """Why the answer is right; None of maybe and overflow. When it is first wanted, the session has to be open, and not
-        to have been opened again."""
+        """Why the answer is right; None of maybe and overflow. When it is first wanted, the session has to be open, and to know
+        it still: it was not opened again, nor changed in what the goal can reach."""
         if self._graph is None and self._node is not None:
             words, goal_at = self._session._graph_words(self._node, self._turn)
             self._graph = Graph(self._session, self._turn, self.goal, self.outcome, self.depth, words, goal_at)
@@ -114,18 +114,30 @@ class Session:
         if status != DONE:
             raise error_of(status, f"row {fault.place} of list {fault.list}: bad row")
         self.table = table
-        # The library reads these until the session is closed, or opened again.
+        # The library reads these until the session is closed, or goes over to others.
         self._rows = rows
         self._count = len(goals) // 2
         self._depth = max(1, self._count)
-        # Last, so that who reads it first finds what belongs to it, or is refused.
-        self._turn += 1
+        # Last, so that who reads it first finds what belongs to it, or is refused. By a change goals keep their places.
+        self._turn += call != "change"
 
     def reopen(self, table: Table) -> None:
         """Makes it a session over this table, as it is now, as good as a new one, with the memory that it has: many small tables
         take less time so than with a session each. Graphs of earlier answers that were not looked at yet are Unknown then."""
         with self._lock:
             self._begin("reopen", table)
+
+    def change(self, table: Table) -> None:
+        """Goes over to this table, as it is now, which may be the same one, changed, or another with any goals in any order.
+
+        What is known of goals that this does not concern stays, with the graphs of their answers: of those whose candidates are
+        what they were, as are those of all goals that they can reach. All else is forgotten, and graphs of it that were not looked
+        at yet are Unknown. Goals that the table does not mention any more have no candidates; if it `is_open`, they are not
+        known. Goals keep their places: where they stand elsewhere in the table, `table` is a copy in which they do not. The time
+        is linear in both tables. Raises OutOfMemory and Closed; then the session is as it was.
+        """
+        with self._lock:
+            self._begin("change", table.placed_as(self.table))
 
     def __enter__(self) -> "Session":
         return self
@@ -176,7 +188,8 @@ class Session:
         return Answer(self, turn, goal, depth, row)
 
     def cause(self, goal: Hashable, depth: Optional[int] = None) -> Cause:
-        """Why the goal is neither yes nor no, if it is neither: it is asked anew for this, and nothing is stored.
+        """Why the goal is neither yes nor no, if it is neither: it is asked anew for this, and nothing is stored. That takes up to a
+        third more instructions than `ask` where nothing is known.
 
         Raises what `ask` does.
         """
@@ -243,8 +256,16 @@ class Session:
     @property
     def held(self) -> int:
         """How many nodes of graphs are held."""
-        nodes = c_size_t()
-        status = self._call(self._turn, "held", byref(nodes))
+        return self._told("held")
+
+    @property
+    def held_bytes(self) -> int:
+        """How many bytes the library holds for the session, without the table; `mirfodwel_held_bytes` of the header says of which."""
+        return self._told("held_bytes")
+
+    def _told(self, name: str) -> int:
+        count = c_size_t()
+        status = self._call(self._turn, name, byref(count))
         if status != DONE:
             raise error_of(status)
-        return nodes.value
+        return count.value

@@ -25,7 +25,7 @@ class Table:
 
     `Table("rule A = i:B")` reads a text as `goals` does, whose goals are its names, without its questions; it raises BadInput.
     `Table()` is empty. Goals that are mentioned and never added have no candidates, so they do not hold; if `is_open`, it is
-    not known how they may hold, and they are answered maybe. A table may grow after a session was opened, which does not see it.
+    not known how they may hold, and they are answered maybe. A table may change after a session was opened, which does not see it.
     """
 
     def __init__(self, text: Optional[Text] = None, *, is_open: bool = False) -> None:
@@ -92,12 +92,20 @@ class Table:
 
         A candidate without questions holds. Where one is malformed, ValueError or TypeError is raised, and nothing is added.
         """
-        fresh = [(isinstance(each, Marked), [(KINDS.index(_kind(kind)), asked) for kind, asked in each]) for each in candidates]
-        for _, questions in fresh:
-            for _, asked in questions:
-                hash(asked)
+        fresh = _numbered(candidates)
         place = self.mention(goal)
         self._make_last(place)
+        self._append(place, fresh)
+
+    def replace(self, goal: Hashable, candidates: Iterable[Candidate]) -> None:
+        """Gives the goal these candidates in place of those that it has; where one is malformed, it keeps them."""
+        fresh = _numbered(candidates)
+        place = self.mention(goal)
+        self._goals[2 * place : 2 * place + 2] = array("I", (len(self._candidates) // 3, 0))
+        self._append(place, fresh)
+
+    def _append(self, place: int, fresh: list[tuple[bool, list[tuple[int, Hashable]]]]) -> None:
+        """Adds candidates behind those of the goal, which stand behind all others."""
         for is_marked, questions in fresh:
             self._candidates.extend((len(self._questions) // 2, len(questions), is_marked))
             for kind, asked in questions:
@@ -125,10 +133,34 @@ class Table:
         found = ((KINDS[kind], self._listed[place]) for kind, place in zip(words[::2], words[1::2]))
         return Marked(found) if is_marked else tuple(found)
 
+    def placed_as(self, other: "Table") -> "Table":
+        """A table of the same rules in which each goal of the other one stands where it does there; what this table does not mention
+        is as what it never added."""
+        if self is other or self._listed[: len(other)] == other._listed:
+            return self
+        placed = Table(is_open=self._is_open)
+        for goal in (*other._listed, *self._listed):
+            placed.mention(goal)
+        for place, goal in enumerate(self._listed):
+            at = placed._places[goal]
+            placed._goals[2 * at : 2 * at + 2] = self._goals[2 * place : 2 * place + 2]
+        placed._candidates, placed._questions = self._candidates[:], self._questions[:]
+        placed._questions[1::2] = array("I", (placed._places[self._listed[place]] for place in self._questions[1::2]))
+        return placed
+
     def rows(self) -> list[Any]:
         """Copies of the rows of goals, candidates and questions, as the library reads them."""
         lists = (self._goals, self._candidates, self._questions)
         return [(ctypes.c_uint32 * len(each)).from_buffer_copy(each) for each in lists]
+
+
+def _numbered(candidates: Iterable[Candidate]) -> list[tuple[bool, list[tuple[int, Hashable]]]]:
+    """Of each candidate whether it is marked, and its questions, with kinds as rows have them."""
+    fresh = [(isinstance(each, Marked), [(KINDS.index(_kind(kind)), asked) for kind, asked in each]) for each in candidates]
+    for _, questions in fresh:
+        for _, asked in questions:
+            hash(asked)
+    return fresh
 
 
 def _kind(kind: str) -> str:

@@ -35,6 +35,25 @@ class Rounds(unittest.TestCase):
         self.assertEqual((ends.answer.outcome, len(ends.answer.graph.nodes)), ("yes", 301))
         self.assertTrue(ends.answer.graph.check())
 
+    def test_what_is_known_is_not_worked_out_again(self):
+        def runs(leaves):
+            def candidates(goal):
+                kind, number = goal
+                if kind == "leaf":
+                    return [[("i", ("leaf", each)) for each in (2 * number, 2 * number + 1) if each < leaves]]
+                return [[*([("i", ("leaf", 1))] if number == 0 else []), *([("i", ("link", number + 1))] if number < 200 else [])]]
+
+            seen = []
+            self.assertEqual(solve(("link", 0), candidates, 300, progress=seen.append).answer.outcome, "yes")
+            return len(seen), [each.answer.runs for each in seen]
+
+        rounds, few = runs(2)
+        more_rounds, many = runs(60)
+        # The leaves are known before the links are, and the last round starts the links alone.
+        self.assertTrue(rounds > 3 and more_rounds > 3)
+        self.assertEqual(few[-1], many[-1])
+        self.assertLess(many[-1], 210)
+
     def test_a_bound_on_goals(self):
         calls = []
         came = solve("", lambda word: calls.append(word) or [[("c", word + "a"), ("c", word + "b")]], 10**6, most_goals=100)

@@ -3,6 +3,7 @@
 import gc
 import os
 import random
+import shutil
 import subprocess
 import sys
 import tempfile
@@ -10,6 +11,7 @@ import unittest
 from concurrent.futures import ThreadPoolExecutor
 from pathlib import Path
 from unittest import mock
+from xml.etree import ElementTree
 
 from mirfodwel import BadInput, Closed, Fault, Marked, OutOfMemory, Session, Table, Unknown, check, explain
 from mirfodwel.library import FAULT, FAULTS
@@ -188,6 +190,105 @@ class Graphs(unittest.TestCase):
                 program.chmod(0o755)
                 self.assertEqual(self.graph._repr_svg_(), "<svg>-Tsvg\n")
 
+    @unittest.skipUnless(shutil.which("dot"), "Graphviz is not installed")
+    def test_picture_by_graphviz(self):
+        def drawn(graph, kind):
+            svg = "{http://www.w3.org/2000/svg}"
+            shapes = ElementTree.fromstring(graph._repr_svg_().encode()).findall(f".//{svg}g[@class='{kind}']")
+            return sorted((it.findtext(f"{svg}title"), " ".join(text.text for text in it.findall(f"{svg}text"))) for it in shapes)
+
+        self.assertEqual(drawn(self.graph, "node"), [("0", "A"), ("1", "B"), ("2", "C")])
+        self.assertEqual(drawn(self.graph, "edge"), [("0->1", "i"), ("0->2", "c"), ("2->0", "c")])
+        for name, shown in (('"\\N" <b> & \xfc', None), ("&lt;", None), ("\x1b\0\udcff", "\ufffd" * 3)):
+            table = Table()
+            table.add(name, [])
+            with Session(table) as session:
+                self.assertEqual(drawn(session.ask(name).graph, "node"), [("0", shown or name)])
+
+
+class Changing(unittest.TestCase):
+    TEXT = "rule A = i:B\nrule B =\nrule C = i:D c:C\nrule D =\nrule E = i:E"
+
+    def test_what_is_not_concerned_stays(self):
+        table = Table(self.TEXT)
+        with Session(table) as session:
+            a, c, late, other = session.ask("A"), session.ask("C"), session.ask("A"), session.ask("C")
+            graph = a.graph
+            table.replace("B", [])
+            self.assertEqual(session.ask("A").outcome, "yes")  # it does not see that yet
+            session.change(table)
+            self.assertRaises(Unknown, lambda: late.graph)
+            self.assertFalse(graph.check())
+            self.assertEqual((session.ask("A").outcome, session.ask("A").graph.check()), ("no", True))
+            came = session.ask("C")
+            self.assertEqual((came.runs, came.graph.words, c.graph.check()), (0, other.graph.words, True))
+            table.add("B", [[("i", "F")]])
+            table.add("F", [[]])
+            session.change(table)
+            self.assertEqual((session.ask("A").outcome, session.ask("C").runs, c.graph.check()), ("yes", 0, True))
+            held = session.held
+            session.change(table)
+            self.assertEqual((session.held, session.ask("A").runs), (held, 0))
+
+    def test_goals_are_the_same_in_any_order(self):
+        first = Table(self.TEXT)
+        with Session(first) as session:
+            e, c = session.ask("E"), session.ask("C")
+            graph = e.graph
+            session.change(Table("rule F = c:E c:C\nrule E = i:E\nrule D =\nrule C = i:D c:C\nrule A ="))
+            self.assertEqual([session.ask(goal).runs for goal in "CDE"], [0, 0, 0])
+            self.assertTrue(c.graph.check() and graph.check())
+            self.assertEqual([node.goal for node in c.graph.nodes], ["C", "D"])
+            self.assertEqual([(session.ask(goal).outcome, session.ask(goal).graph.check()) for goal in "FAB"], [("no", True), ("yes", True), ("no", True)])
+            self.assertEqual(session.explain("F").splitlines()[0], "F does not hold")
+            session.change(first)
+            self.assertEqual([session.ask(goal).runs for goal in "CDE"], [0, 0, 0])
+            self.assertEqual((session.ask("A").outcome, session.ask("F").outcome), ("yes", "no"))
+        self.assertEqual(first.goals, ["A", "B", "C", "D", "E"])
+
+    def test_refused_changes_leave_it_as_it_was(self):
+        bad = Table(self.TEXT)
+        bad._questions[1] = 9
+        with Session(Table(self.TEXT)) as session:
+            answer, table = session.ask("C"), session.table
+            self.assertRaises(BadInput, session.change, bad)
+            self.assertEqual((session.ask("C").runs, session.table, answer.graph.check()), (0, table, True))
+        self.assertRaises(Closed, session.change, table)
+
+    def test_replaced_candidates(self):
+        table = Table(self.TEXT)
+        before = table.candidates("A")
+        self.assertRaises(ValueError, table.replace, "A", [[("x", "B")]])
+        self.assertEqual(table.candidates("A"), before)
+        table.replace("A", [Marked([("c", "G")]), []])
+        table.add("A", [[("u", "A")]])
+        self.assertEqual(table.candidates("A"), [(("c", "G"),), (), (("u", "A"),)])
+        self.assertEqual((table.candidates("G"), table.candidates("B")), ([], [()]))
+
+    def test_random_histories(self):
+        stayed = 0
+        for seed in range(12):
+            chance = random.Random(seed)
+            rules = random_rules(seed, 30)
+            with Session(table_of(rules)) as session:
+                for _ in range(40):
+                    if chance.random() < 0.5:
+                        rules[chance.randrange(30)] = random_rules(chance.randrange(10**6), 30)[chance.randrange(30)]
+                    table, order = Table(), list(range(30))
+                    chance.shuffle(order)
+                    for goal in order:
+                        table.add(goal, rules[goal])
+                    session.change(table)
+                    with Session(table_of(rules)) as fresh:
+                        for goal in chance.sample(range(30), 5):
+                            came, anew = session.ask(goal, 6), fresh.ask(goal, 6)
+                            stayed += came.runs == 0
+                            self.assertNotEqual({came.outcome, anew.outcome}, {"yes", "no"})
+                            if came.graph is not None:
+                                self.assertTrue(came.graph.check())
+                                self.assertEqual(came.graph.nodes[0].goal, goal)
+        self.assertGreater(stayed, 100)
+
 
 class Closing(unittest.TestCase):
     def test_closed_sessions_say_so(self):
@@ -196,7 +297,7 @@ class Closing(unittest.TestCase):
         graph = answer.graph
         session.close()
         session.close()
-        calls = [session.wanted, graph.check, graph.explain, lambda: late.graph, lambda: session.held, lambda: session.ask("A")]
+        calls = [session.wanted, graph.check, graph.explain, lambda: late.graph, lambda: session.held, lambda: session.held_bytes, lambda: session.ask("A")]
         for call in calls:
             self.assertRaises(Closed, call)
         self.assertEqual((answer.graph, graph.nodes[0].goal), (graph, "A"))
@@ -236,6 +337,19 @@ class Closing(unittest.TestCase):
                 session.reopen(first)
                 self.assertRaises(Unknown, session.ask, "X")
         self.assertRaises(Closed, session.reopen, first)
+
+    def test_bytes(self):
+        with Session(Table("rule A = c:A")) as session:
+            begun = session.held_bytes
+            self.assertGreater(begun, 0)
+            session.ask("A")
+            small = session.held_bytes
+            self.assertGreater(small, begun)
+            session.reopen(Table("\n".join(f"rule g{it} = c:g{it + 1}" for it in range(2000))))
+            self.assertLess(session.held_bytes, small + 1)
+            session.ask("g0")
+            # A node takes some hundred bytes.
+            self.assertTrue(64 * session.held < session.held_bytes < 1024 * session.held)
 
     def test_faults(self):
         def faulty(name):

@@ -163,6 +163,16 @@ unsafe extern "C" {
         questions_count: usize,
         fault: *mut RowFault,
     ) -> Status;
+    fn mirfodwel_change(
+        session: *mut RawSession,
+        goals: *const GoalRow,
+        goals_count: usize,
+        candidates: *const CandidateRow,
+        candidates_count: usize,
+        questions: *const QuestionRow,
+        questions_count: usize,
+        fault: *mut RowFault,
+    ) -> Status;
     fn mirfodwel_ask(session: *mut RawSession, depth: usize, goal: u32, answer: *mut RawAnswer) -> Status;
     fn mirfodwel_graph(session: *mut RawSession, node: usize, out: *mut u64, room: usize, used: *mut usize) -> Status;
     fn mirfodwel_check_graph(
@@ -188,6 +198,7 @@ unsafe extern "C" {
     fn mirfodwel_cause(session: *mut RawSession, depth: usize, goal: u32, reason: *mut RawReason) -> Status;
     fn mirfodwel_last_fault(session: *mut RawSession, out: *mut u8, room: usize, used: *mut usize) -> Status;
     fn mirfodwel_held(session: *mut RawSession, nodes: *mut usize) -> Status;
+    fn mirfodwel_held_bytes(session: *mut RawSession, bytes: *mut usize) -> Status;
     fn mirfodwel_close(session: *mut RawSession) -> Status;
 }
 
@@ -285,13 +296,16 @@ pub(crate) fn find(names: &[u8], name: &[u8]) -> Option<u32> {
 
 /// A table, and a session of the library that is open over its rows or closed.
 ///
-/// While `raw` is open the library has pointers to the rows. They stay valid: the table is lent out mutably only by `change`,
-/// which puts an open session away; nothing in a `Table` changes while it is shared; the rows lie on the heap, where they stay
-/// when the value moves; and the session is closed before the table is dropped.
+/// While `raw` is open the library has pointers to rows, which it reads if `has_rows`: those of `before`, if there is such a table,
+/// and else those of `table`. They stay valid: `table` is lent out mutably only by `change`, which leaves an open session
+/// the table that it has and lends a copy; nothing in a `Table` changes while it is shared; the rows lie on the heap, where they
+/// stay when the value moves; and the session is closed before the tables are dropped.
 pub(crate) struct Opened {
     raw: RawSession,
-    /// A session that is open over rows which may be gone, or zero. It is only opened again or closed, which reads none of these.
-    put_away: RawSession,
+    /// Else they may be gone, and an open session is only opened again or closed, which reads none.
+    has_rows: bool,
+    /// The table as it was before it was changed, until an open session goes over to the changed one.
+    before: Option<Table>,
     table: Table,
 }
 
@@ -302,32 +316,34 @@ unsafe impl Send for Opened {}
 
 impl Opened {
     pub(crate) fn closed(table: Table) -> Opened {
-        Opened { raw: RawSession::closed(), put_away: RawSession::closed(), table }
+        Opened { raw: RawSession::closed(), has_rows: false, before: None, table }
     }
 
-    pub(crate) fn is_open(&self) -> bool {
-        self.raw.is_open
+    /// Whether the nodes that it has stay, once it is open over the rows.
+    pub(crate) fn keeps_nodes(&self) -> bool {
+        self.raw.is_open && self.has_rows
     }
 
     pub(crate) fn table(&self) -> &Table {
         &self.table
     }
 
-    /// Opens a session over the rows, if none is open: the one that was put away, if there is one.
+    /// Opens a session over the rows, if none is: one that has other rows goes over to these.
     pub(crate) fn open(&mut self) -> Result<(), Status> {
-        if self.raw.is_open {
-            return Ok(());
-        }
+        let open = match (self.raw.is_open, self.has_rows, &self.before) {
+            (false, ..) => mirfodwel_open,
+            (true, false, _) => mirfodwel_reopen,
+            (true, true, Some(_)) => mirfodwel_change,
+            (true, true, None) => return Ok(()),
+        };
         let rows = self.table.rows();
         let mut fault = RowFault::default();
-        let mut raw = mem::replace(&mut self.put_away, RawSession::closed());
-        let open = if raw.is_open { mirfodwel_reopen } else { mirfodwel_open };
-        // SAFETY: the handle is all zero, and is opened; or only the library has written it, and it is opened again. The rows
-        // are lent with their lengths, and stay where they are, and what they are, until it is put away or closed (see
-        // `Opened`).
+        // SAFETY: the handle is all zero, and is opened; or only the library has written it, and it is opened again, or goes over
+        // from rows that are still there. The new rows are lent with their lengths, and stay where they are, and what they are,
+        // while it is open over them (see `Opened`).
         let status = unsafe {
             open(
-                &mut raw,
+                &mut self.raw,
                 rows.goals.as_ptr(),
                 rows.goals.len(),
                 rows.candidates.as_ptr(),
@@ -337,21 +353,26 @@ impl Opened {
                 &mut fault,
             )
         };
-        if status == DONE {
-            self.raw = raw;
-            Ok(())
-        } else {
-            self.put_away = raw;
-            Err(status)
+        if status != DONE {
+            return Err(status);
         }
+        (self.has_rows, self.before) = (true, None);
+        Ok(())
     }
 
-    /// Puts away the session, if one is open, and lends the table to be changed.
+    /// Lends the table to be changed. A session that is open over it keeps it as it was, until it goes over to the changed one.
     pub(crate) fn change(&mut self) -> &mut Table {
-        if self.raw.is_open {
-            self.put_away = mem::replace(&mut self.raw, RawSession::closed());
+        if self.keeps_nodes() && self.before.is_none() {
+            let changed = self.table.clone();
+            self.before = Some(mem::replace(&mut self.table, changed));
         }
         &mut self.table
+    }
+
+    /// Gives the table back for another one, of which nothing is known. An open session has no rows then.
+    pub(crate) fn replace(&mut self, table: Table) -> Table {
+        (self.has_rows, self.before) = (false, None);
+        mem::replace(&mut self.table, table)
     }
 
     pub(crate) fn ask(&mut self, depth: usize, goal: u32) -> (Status, RawAnswer) {
@@ -414,15 +435,20 @@ impl Opened {
         let status = unsafe { mirfodwel_held(&mut self.raw, &mut nodes) };
         (status, nodes)
     }
+
+    pub(crate) fn held_bytes(&mut self) -> (Status, usize) {
+        let mut bytes = 0;
+        // SAFETY: the handle is as in `ask`, and `bytes` is written alone.
+        let status = unsafe { mirfodwel_held_bytes(&mut self.raw, &mut bytes) };
+        (status, bytes)
+    }
 }
 
 impl Drop for Opened {
     fn drop(&mut self) {
-        for raw in [&mut self.raw, &mut self.put_away] {
-            if raw.is_open {
-                // SAFETY: the handle is open, and only the library has written it.
-                let _status = unsafe { mirfodwel_close(raw) };
-            }
+        if self.raw.is_open {
+            // SAFETY: the handle is open, and only the library has written it.
+            let _status = unsafe { mirfodwel_close(&mut self.raw) };
         }
     }
 }

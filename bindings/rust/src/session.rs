@@ -46,7 +46,7 @@ impl fmt::Display for Outcome {
     }
 }
 
-/// A node that a session has, until it is opened anew.
+/// A node that a session has, until it is opened again, or its goal is forgotten.
 #[derive(Clone, Copy, Debug, PartialEq, Eq, Hash)]
 pub struct NodeId {
     session: u64,
@@ -71,7 +71,7 @@ pub struct Answer {
 /// A table with what is known of its goals so far.
 ///
 /// It owns its table, which the library reads where it lies. It may be handed to another thread, but is one thread's at a time.
-/// Nodes of answers stay as long as it is open; dropping it gives back all memory.
+/// Nodes of answers stay as long as what they rest on does not change; dropping it gives back all memory.
 ///
 /// ```
 /// use mirfodwel::{Outcome, Session, Table};
@@ -115,8 +115,9 @@ impl Session {
     }
 
     fn opened(&mut self) -> Result<&mut Opened, Error> {
-        if !self.opened.is_open() {
-            self.opened.open().map_err(|status| Error::of(status, Vec::new()))?;
+        let keeps_nodes = self.opened.keeps_nodes();
+        self.opened.open().map_err(|status| Error::of(status, Vec::new()))?;
+        if !keeps_nodes {
             self.number = NEXT.fetch_add(1, Ordering::Relaxed);
         }
         Ok(&mut self.opened)
@@ -153,7 +154,8 @@ impl Session {
     ///
     /// # Errors
     ///
-    /// [`Error::UnknownNode`] where this session has no such node, or was opened anew since it had, and [`Error::NoMemory`].
+    /// [`Error::UnknownNode`] where this session has no such node, or no longer has it since the table was changed, or another
+    /// one, and [`Error::NoMemory`].
     pub fn graph(&mut self, node: NodeId) -> Result<Graph, Error> {
         self.opened()?;
         if node.session != self.number {
@@ -221,7 +223,8 @@ impl Session {
         }
     }
 
-    /// Asks the goal anew, apart from all that is known, and says why it is neither yes nor no, if it is neither.
+    /// Asks the goal anew, apart from all that is known, and says why it is neither yes nor no, if it is neither. This takes up to
+    /// a third more instructions than [`Session::ask`] where nothing is known.
     ///
     /// ```
     /// use mirfodwel::{Session, Table, Why};
@@ -249,7 +252,7 @@ impl Session {
     ///
     /// # Errors
     ///
-    /// [`Error::NoMemory`] where the session is to be opened by this call, after [`Session::change`], and memory is out.
+    /// [`Error::NoMemory`] where the session goes over to another table by this call, and memory is out.
     pub fn held_nodes(&mut self) -> Result<usize, Error> {
         match self.opened()?.held() {
             (ffi::DONE, nodes) => Ok(nodes),
@@ -257,21 +260,54 @@ impl Session {
         }
     }
 
-    /// Lets the table be changed. What was known is forgotten: the session is opened anew by the next call, with the memory that
-    /// it has.
+    /// How many bytes of the heap the session holds, without its table: as `mirfodwel_held_bytes` of the header says. The time
+    /// grows with what it knows.
+    ///
+    /// # Errors
+    ///
+    /// As of [`Session::held_nodes`].
+    pub fn held_bytes(&mut self) -> Result<usize, Error> {
+        match self.opened()?.held_bytes() {
+            (ffi::DONE, bytes) => Ok(bytes),
+            (status, _) => Err(Error::of(status, Vec::new())),
+        }
+    }
+
+    /// Lets the table be changed, also by putting another one in its place. What is known of goals that this does not concern
+    /// stays, with their nodes: of those whose candidates are as they were, as are those of all goals that they can reach. All
+    /// else is forgotten.
+    ///
+    /// The table is copied, and the next call compares the two and goes over, so several changes at a time take less time
+    /// than one after the other. Where memory is out for that, the call says [`Error::NoMemory`], and later ones try again: till
+    /// then nothing is forgotten.
+    ///
+    /// ```
+    /// use mirfodwel::{Outcome, Session, Table};
+    ///
+    /// let mut session = Session::open(Table::read("rule A = i:B\nrule B =\nrule C = i:D\nrule D =\n")?)?;
+    /// let [a, b, c] = ["A", "B", "C"].map(|name| session.table().goal(name).unwrap());
+    /// let (one, other) = (session.ask(a, 4)?, session.ask(c, 4)?);
+    /// assert_eq!((one.outcome, other.outcome), (Outcome::Yes, Outcome::Yes));
+    ///
+    /// session.change(|table| table.set_candidates(b, &[]))?; // B holds no longer
+    /// assert_eq!(session.ask(a, 4)?.outcome, Outcome::No);
+    /// assert_eq!(session.ask(c, 4)?.runs, 0); // this is stored still
+    /// assert!(session.graph(other.node.unwrap()).is_ok());
+    /// # Ok::<(), mirfodwel::Error>(())
+    /// ```
     pub fn change<T>(&mut self, change: impl FnOnce(&mut Table) -> T) -> T {
         change(self.opened.change())
     }
 
     /// Makes it a session over another table, as good as a new one, with the memory that it has: many small tables take less
-    /// time so than with a session each. The table so far is given back.
+    /// time so than with a session each. The table so far is given back. To keep what is known, [`Session::change`] it.
     pub fn reopen(&mut self, table: Table) -> Table {
-        self.change(|it| std::mem::replace(it, table))
+        self.opened.replace(table)
     }
 
     /// Closes the session, and gives the table back.
     pub fn close(mut self) -> Table {
-        std::mem::take(self.opened.change())
+        self.opened.replace(Table::new())
     }
 }
 

@@ -114,7 +114,7 @@ impl<R: Rules> Solver<R> {
     /// deep they are followed.
     ///
     /// The answer's runs are those of all rounds, and a limit was met, too, where more goals were wanted than may be known.
-    /// A round in which goals became known opens a session anew, which forgets what was stored, and looks at each row once.
+    /// After a round in which goals became known all rows are looked at once, and what rests on goals that were known stays stored.
     ///
     /// # Errors
     ///
@@ -130,7 +130,7 @@ impl<R: Rules> Solver<R> {
             let answer = self.session.ask(root, depth)?;
             self.rounds += 1;
             runs += answer.runs;
-            let wanted = if answer.outcome.is_definite() { Vec::new() } else { self.session.wanted()? };
+            let wanted = if answer.outcome.is_definite() { Vec::new() } else { self.wanted(root)? };
             let is_cut = !wanted.is_empty() && self.known >= self.most;
             if wanted.is_empty() || is_cut {
                 return Ok(Answer { runs, limits_met: answer.limits_met || is_cut, ..answer });
@@ -143,7 +143,8 @@ impl<R: Rules> Solver<R> {
     ///
     /// # Errors
     ///
-    /// [`Error::UnknownNode`] where a later question made more goals known, as that forgets all nodes, and [`Error::NoMemory`].
+    /// [`Error::UnknownNode`] where a later question made goals known that the answer's goal can reach, as that forgets its nodes,
+    /// and [`Error::NoMemory`].
     pub fn graph(&mut self, node: NodeId) -> Result<Graph<R::Goal>, Error> {
         self.session.graph(node)?.about(&self.numbered.goals)
     }
@@ -168,6 +169,16 @@ impl<R: Rules> Solver<R> {
             Some(number) => Ok(*number),
             None => self.session.change(|table| self.numbered.number(table, goal)),
         }
+    }
+
+    /// The goals that are not known, and that were asked for below this one. What others asked for is wanted by them.
+    fn wanted(&mut self, root: Goal) -> Result<Vec<Goal>, Error> {
+        let mut wanted = self.session.wanted()?;
+        if !wanted.is_empty() {
+            let reached = self.session.table().reached(root);
+            wanted.retain(|it| reached[it.0 as usize]);
+        }
+        Ok(wanted)
     }
 
     /// Makes goals known: those that are wanted, and as long as no more become known than were before, those that these ask.

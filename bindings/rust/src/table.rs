@@ -231,6 +231,21 @@ impl Table {
         Ok(())
     }
 
+    /// Of each goal, by its place, whether this one can reach it by questions.
+    pub(crate) fn reached(&self, goal: Goal) -> Vec<bool> {
+        let Rows { goals, candidates, questions } = &self.rows;
+        let mut reached = vec![false; goals.len()];
+        let mut ahead = vec![goal.0];
+        while let Some(goal) = ahead.pop() {
+            let row = goals[goal as usize];
+            if !std::mem::replace(&mut reached[goal as usize], true) && row.count != NOT_KNOWN {
+                let rows = part(candidates, row.first, row.count).iter();
+                ahead.extend(rows.flat_map(|it| part(questions, it.first, it.count)).map(|it| it.goal));
+            }
+        }
+        reached
+    }
+
     pub(crate) fn rows(&self) -> &Rows {
         &self.rows
     }

@@ -148,16 +148,72 @@ fn graphs_of_other_solvers_are_checked() {
 }
 
 #[test]
-fn nodes_are_forgotten_when_more_becomes_known() {
+fn nodes_stay_where_no_more_becomes_known_below() {
     let mut solver = Solver::new(endless(90));
     let node = solver.ask(&80, 500).unwrap().node.unwrap();
-    assert!(solver.graph(node).is_ok());
-    let other = solver.ask(&0, 500).unwrap().node.unwrap();
-    assert_eq!(solver.graph(node), Err(Error::UnknownNode));
-    assert_eq!(solver.graph(other).unwrap().len(), 91);
+    let graph = solver.graph(node).unwrap();
+    let answer = solver.ask(&0, 500).unwrap();
+    // The first round knows 64 goals and comes to another one; of the second the last eleven are stored.
+    assert_eq!((answer.runs, solver.graph(node)), (65 + 80, Ok(graph)));
+    assert_eq!(solver.graph(answer.node.unwrap()).unwrap().len(), 91);
     // Nothing new is asked here.
     assert_eq!(solver.ask(&10, 500).unwrap().runs, 0);
-    assert!(solver.graph(other).is_ok());
+    assert!(solver.graph(node).is_ok());
+    // This one holds by its first candidate, and the other one leads on.
+    let mut solver =
+        Solver::new(Named::read(b"rule a =\nrule a = i:b\nrule b = i:c\nrule c = i:d\n")).with_first_goals(1);
+    let node = solver.ask(&"a".to_string(), 9).unwrap().node.unwrap();
+    assert!(solver.graph(node).is_ok());
+    assert_eq!(solver.ask(&"b".to_string(), 9).unwrap().outcome, Outcome::No);
+    assert_eq!(solver.graph(node), Err(Error::UnknownNode));
+}
+
+/// A goal that needs a tree of so many leaves and then a long chain.
+struct Tree(u64);
+
+impl Rules for Tree {
+    type Goal = (bool, u64);
+
+    fn candidates(&self, &(is_leaf, number): &(bool, u64)) -> Vec<Candidate<(bool, u64)>> {
+        let next: Vec<_> = match (is_leaf, number) {
+            (true, _) => {
+                [2 * number, 2 * number + 1].into_iter().filter(|it| *it < self.0).map(|it| (true, it)).collect()
+            }
+            (false, 0) => vec![(true, 1), (false, 1)],
+            (false, 500) => vec![],
+            (false, _) => vec![(false, number + 1)],
+        };
+        vec![Candidate::new(next.into_iter().map(Question::inductive))]
+    }
+}
+
+#[test]
+fn a_round_does_not_start_what_is_known_again() {
+    let runs = |leaves| {
+        let mut solver = Solver::new(Tree(leaves)).with_first_goals(1);
+        let tree = solver.ask(&(true, 1), 1000).unwrap();
+        let all = solver.ask(&(false, 0), 1000).unwrap();
+        assert_eq!((tree.outcome, all.outcome, all.limits_met), (Outcome::Yes, Outcome::Yes, false));
+        assert!(solver.rounds() > 1 && tree.runs >= leaves - 1);
+        (all.runs, solver.rounds())
+    };
+    // Of the chain all is started again while its end is not known, and of the tree nothing.
+    let (few, rounds) = runs(2);
+    assert!(few < 1_100 && rounds > 5, "{few} runs, {rounds} rounds");
+    let (many, more_rounds) = runs(300);
+    assert!(more_rounds < rounds && many < 501 + 400, "{many} runs, {more_rounds} rounds");
+    assert_eq!(Solver::new(Tree(300)).ask(&(false, 0), 1000).unwrap().outcome, Outcome::Yes);
+}
+
+#[test]
+fn what_others_want_is_not_made_known() {
+    // The first goal holds whatever comes of what it asked before, which goes on without end.
+    let text: String = (0..200).map(|it| format!("rule n{it} = i:n{}\n", it + 1)).collect();
+    let text = format!("rule a = i:n0\nrule a =\nrule m = u:m\n{text}");
+    let mut solver = Solver::new(Named::read(text.as_bytes())).with_first_goals(1);
+    assert_eq!(solver.ask(&"a".to_string(), 500).unwrap().outcome, Outcome::Yes);
+    let answer = solver.ask(&"m".to_string(), 500).unwrap();
+    assert_eq!((answer.outcome, solver.rounds(), solver.known_goals()), (Outcome::Maybe, 1, 2));
 }
 
 #[test]

@@ -1,8 +1,9 @@
 //! Sessions: what they own and give back, what they refuse, and which thread has them.
 mod cases;
 
+use cases::Numbers;
 use mirfodwel::{
-    texts, Candidate, Cut, Error, Form, Goal, Graph, Outcome, PathKind, Question, Reply, Session, Table, Why,
+    texts, Answer, Candidate, Cut, Error, Form, Goal, Graph, Outcome, PathKind, Question, Reply, Session, Table, Why,
 };
 
 const TEXT: &str = "rule A = i:B c:C\nrule B =\nrule C = c:A\nrule D = i:E\nrule E = i:D\nrule F = u:F\n";
@@ -83,6 +84,9 @@ fn what_is_not_there_is_an_error() {
     // A node of another session is none of this.
     assert_eq!(self::session().graph(node), Err(Error::UnknownNode));
     session.change(|_| ());
+    assert_eq!(session.graph(node), Ok(graph));
+    let table = session.reopen(Table::new());
+    session.reopen(table);
     assert_eq!(session.graph(node), Err(Error::UnknownNode));
     let mut table = session.close();
     let asks = |goal| [Candidate::new([Question::inductive(goal)])];
@@ -116,6 +120,104 @@ fn goals_become_known_in_rounds() {
     let answer = session.ask(goals[0], 3).unwrap();
     assert_eq!(session.graph(answer.node.unwrap()).unwrap().root().unwrap().edges().count(), 0);
     assert_eq!(session.close().candidates(goals[0]), Some(both.to_vec()));
+}
+
+#[test]
+fn a_session_tells_its_bytes() {
+    let mut session = session();
+    let begun = session.held_bytes().unwrap();
+    assert_eq!(outcome(&mut session, "A"), Outcome::Yes);
+    let small = session.held_bytes().unwrap();
+    assert!(0 < begun && begun < small, "{begun} and {small} bytes");
+    let rules: String = (0..2000).map(|it| format!("rule g{it} = c:g{}\n", it + 1)).collect();
+    session.reopen(Table::read(&rules).unwrap());
+    let emptied = session.held_bytes().unwrap();
+    assert!(emptied <= small, "{emptied} bytes of nothing, and {small} before");
+    let goal = session.table().goal("g0").unwrap();
+    assert_eq!(session.ask(goal, 3000).unwrap().outcome, Outcome::No);
+    // A node takes some hundred bytes.
+    let (nodes, bytes) = (session.held_nodes().unwrap(), session.held_bytes().unwrap());
+    assert!(64 * nodes < bytes && bytes < 1024 * nodes, "{bytes} bytes, {nodes} nodes");
+}
+
+#[test]
+fn what_a_change_does_not_concern_stays() {
+    let mut session = session();
+    let goal = |session: &Session, name| session.table().goal(name).unwrap();
+    let (a, b, d, e) = (goal(&session, "A"), goal(&session, "B"), goal(&session, "D"), goal(&session, "E"));
+    let [of_a, of_d] = [a, d].map(|it| session.ask(it, 10).unwrap());
+    let graphs = [of_a, of_d].map(|it| session.graph(it.node.unwrap()).unwrap());
+    // Several changes are one: what comes in between does not count.
+    session.change(|table| table.set_candidates(e, &[])).unwrap();
+    session.change(|table| table.set_candidates(b, &[])).unwrap();
+    session.change(|table| table.set_candidates(e, &[Candidate::new([Question::inductive(d)])])).unwrap();
+    assert_eq!(session.graph(of_a.node.unwrap()), Err(Error::UnknownNode));
+    assert_eq!(session.graph(of_d.node.unwrap()).as_ref(), Ok(&graphs[1]));
+    assert_eq!(session.check(a, Outcome::Yes, &graphs[0]), Ok(false));
+    assert_eq!(session.ask(d, 10).unwrap(), with_runs(of_d, 0));
+    assert_eq!(session.ask(a, 10).unwrap().outcome, Outcome::No);
+    // With the same rows, elsewhere, all stays.
+    let held = session.held_nodes();
+    session.change(|table| *table = table.clone());
+    assert_eq!((session.held_nodes(), session.ask(a, 10).unwrap().runs), (held, 0));
+    // Of another table nothing is known after all; nodes are no nodes of it.
+    session.change(|table| table.set_candidates(b, &[Candidate::new([])])).unwrap();
+    let changed = session.reopen(Table::read("rule X =").unwrap());
+    assert_eq!(changed.candidates(b), Some(vec![Candidate::new([])]));
+    assert_eq!(
+        (session.graph(of_d.node.unwrap()), outcome(&mut session, "X")),
+        (Err(Error::UnknownNode), Outcome::Yes)
+    );
+    session.change(|table| *table = changed);
+    assert_eq!((outcome(&mut session, "A"), outcome(&mut session, "D")), (Outcome::Yes, Outcome::No));
+}
+
+/// The answer with so many runs.
+fn with_runs(mut answer: Answer, runs: u64) -> Answer {
+    answer.runs = runs;
+    answer
+}
+
+#[test]
+fn sessions_that_live_on_agree_with_new_ones() {
+    let mut numbers = Numbers(7);
+    let mut stayed = 0;
+    for round in 0..60 {
+        let goals = 1 + numbers.below(12);
+        let mut table = Table::new();
+        for _ in 0..goals {
+            table.add_goal().unwrap();
+        }
+        let mut session = Session::open(table).unwrap();
+        for _ in 0..30 {
+            for _ in 0..numbers.below(4) {
+                let goal = numbers.below(goals);
+                let candidates: Vec<_> = (0..numbers.below(3)).map(|_| candidate(&mut numbers, goal, goals)).collect();
+                session.change(|table| table.set_candidates(Goal(goal as u32), &candidates)).unwrap();
+            }
+            let mut anew = Session::open(session.table().clone()).unwrap();
+            for _ in 0..4 {
+                let (goal, depth) = (Goal(numbers.below(goals) as u32), numbers.below(14));
+                let (came, other) = (session.ask(goal, depth).unwrap(), anew.ask(goal, depth).unwrap());
+                stayed += u32::from(came.runs == 0);
+                if let Some(node) = came.node {
+                    let graph = session.graph(node).unwrap();
+                    assert!(anew.check(goal, came.outcome, &graph).unwrap(), "{goal:?} in round {round}");
+                    assert!(!other.outcome.is_definite() || other.outcome == came.outcome, "{goal:?} in round {round}");
+                }
+            }
+        }
+    }
+    assert!(stayed > 500, "{stayed}");
+}
+
+/// A candidate by chance of such a goal, of so many, that asks it and later ones alone.
+fn candidate(numbers: &mut Numbers, goal: usize, goals: usize) -> Candidate<Goal> {
+    let questions = (0..numbers.below(3)).map(|_| Question {
+        kind: [PathKind::Inductive, PathKind::Coinductive, PathKind::Unknown][numbers.below(3)],
+        goal: Goal((goal + numbers.below(goals - goal)) as u32),
+    });
+    Candidate::new(questions.collect::<Vec<_>>())
 }
 
 #[test]
