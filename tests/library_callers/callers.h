@@ -256,6 +256,11 @@ SOME mirfodwel_status reopen_over(mirfodwel_session *session, const struct rows 
         rows->sizes.questions, fault);
 }
 
+SOME mirfodwel_status change_over(mirfodwel_session *session, const struct rows *rows, mirfodwel_row_fault *fault) {
+    return mirfodwel_change(session, rows->goals, rows->sizes.goals, rows->candidates, rows->sizes.candidates, rows->questions,
+        rows->sizes.questions, fault);
+}
+
 SOME bool is_all_zero(const mirfodwel_session *session) {
     return !session->is_open && !session->inside;
 }

@@ -1,6 +1,6 @@
 /*
  * Calls by chance: ROUNDS of them, 2,000 if the environment says nothing, from SEED on. In each round rows are made by chance, in order or not, and a session
- * is opened, asked, looked at, opened again and closed, with numbers, rooms and graphs as they may come from anywhere; and a table is made as a text and answered
+ * is opened, asked, looked at, given other rows and closed, with numbers, rooms and graphs as they may come from anywhere; and a table is made as a text and answered
  * as a text, over its rows, and over the same rows in another order with other numbers, all of which have to say the same.
  */
 #include "callers.h"
@@ -210,6 +210,7 @@ static void look_at_rest(struct world *world) {
     uint8_t out;
     expect(mirfodwel_last_fault(&world->session, &out, 0, &used) == MIRFODWEL_DONE && used == 0, "round %ld: there was a fault", round_number);
     expect(mirfodwel_held(&world->session, &nodes) == MIRFODWEL_DONE && nodes == world->held, "round %ld: %zu nodes are held", round_number, nodes);
+    expect(mirfodwel_held_bytes(&world->session, &used) == MIRFODWEL_DONE && used > nodes, "round %ld: %zu bytes are held", round_number, used);
     mirfodwel_row_fault fault;
     expect(open_over(&world->session, &world->rows, &fault) == MIRFODWEL_WRONG_STATE, "round %ld: it is opened twice", round_number);
 }
@@ -221,23 +222,26 @@ static void forget(struct world *world) {
     world->held = 0;
 }
 
-/* Opens the session again, over rows by chance, and looks at nothing of those so far but where it is refused. */
-static void reopen(struct world *world) {
+/* Opens the session again over rows by chance, or has it go over to them. In the former case nothing is looked at of those so far but where it is
+   refused. */
+static void give_rows(struct world *world) {
     struct rows rows = random_rows();
     mirfodwel_row_fault found = {9, 99}, fault;
     if (!chance(3))
         spoil(&rows);
     seal_rows(&rows);
-    bool is_right = is_in_order(&rows, &fault), is_early = is_right && chance(2);
+    bool keeps = chance(2), is_right = is_in_order(&rows, &fault), is_early = is_right && !keeps && chance(2);
     if (is_early)
         drop_rows(&world->rows);
-    mirfodwel_status status = reopen_over(&world->session, &rows, &found);
-    expect(status == (is_right ? MIRFODWEL_DONE : MIRFODWEL_BAD_INPUT), "round %ld: it is opened again with status %d", round_number, status);
+    mirfodwel_status status = (keeps ? change_over : reopen_over)(&world->session, &rows, &found);
+    expect(status == (is_right ? MIRFODWEL_DONE : MIRFODWEL_BAD_INPUT), "round %ld: it is given other rows with status %d", round_number, status);
     if (is_right) {
         if (!is_early)
             drop_rows(&world->rows);
         world->rows = rows;
         forget(world);
+        mirfodwel_held(&world->session, &world->held);
+        expect(keeps || world->held == 0, "round %ld: %zu nodes are held", round_number, world->held);
     } else {
         expect(found.list == fault.list && found.place == fault.place, "round %ld: row %zu of list %d is bad", round_number, found.place, found.list);
         drop_rows(&rows);
@@ -255,7 +259,7 @@ static void call_closed(mirfodwel_session *session) {
     mirfodwel_status status = MIRFODWEL_WRONG_STATE;
     mirfodwel_row_fault fault;
     struct rows none = {(void *)words, (void *)words, (void *)words, out, {0, 0, 0, 0}};
-    switch (chance(10)) {
+    switch (chance(12)) {
     case 0: status = mirfodwel_ask(session, strange(), (uint32_t)strange(), &answer); break;
     case 1: status = mirfodwel_graph(session, strange(), words, chance(3), &used); break;
     case 2: status = mirfodwel_check_graph(session, (uint32_t)strange(), chance(2), words, chance(3), &is_valid); break;
@@ -266,12 +270,14 @@ static void call_closed(mirfodwel_session *session) {
     case 7: status = mirfodwel_close(session); break;
     case 8: status = reopen_over(session, &none, &fault); break;
     case 9: status = mirfodwel_cause(session, strange(), (uint32_t)strange(), &reason); break;
+    case 10: status = mirfodwel_held_bytes(session, &used); break;
+    case 11: status = change_over(session, &none, &fault); break;
     }
     expect(status == MIRFODWEL_WRONG_STATE && is_all_zero(session), "round %ld: a closed session has status %d", round_number, status);
 }
 
 static void use_rows(void) {
-    void (*const uses[])(struct world *) = {ask, ask, ask, look_at_graph, check, check, look_at_wanted, look_at_cause, show, look_at_rest, reopen};
+    void (*const uses[])(struct world *) = {ask, ask, ask, look_at_graph, check, check, look_at_wanted, look_at_cause, show, look_at_rest, give_rows};
     struct world world = {.rows = random_rows(), .verdicts = {-1, -1, -1, -1, -1, -1, -1, -1}};
     mirfodwel_row_fault found = {9, 99}, fault;
     if (!chance(3))

@@ -1,54 +1,13 @@
 /*
  * refused MODE FILE..: of each file every request for memory is refused in turn, and then all from each one on, where MODE is `tables` in the calls
  * on tables, on their rows and in sessions over them, and where it is `data` or `types` in the call that reads these. An answer, a fault
- * or a status has to come of it, nothing may be lost of what was known, and no memory may be held at the end. Linked so that malloc,
- * realloc and free are those of this file.
+ * or a status has to come of it, nothing may be lost of what was known, and no memory may be held at the end.
  */
 #include "callers.h"
+#include "refusals.h"
 
 /* The PLACES that the environment names are the most requests of one call that are refused. */
 static long most;
-
-/* While the library works, its requests are counted, with the blocks that it holds, and one is refused, or all from one on, but while
-   `spares`. */
-static bool works, spares, all_after;
-static long requests, refused_at, held;
-
-void *__real_malloc(size_t bytes);
-void *__real_realloc(void *block, size_t bytes);
-void __real_free(void *block);
-void *__wrap_malloc(size_t bytes);
-void *__wrap_realloc(void *block, size_t bytes);
-void __wrap_free(void *block);
-
-static bool is_refused(void) {
-    if (!works || spares)
-        return false;
-    long request = ++requests;
-    return all_after ? request >= refused_at : request == refused_at;
-}
-
-void *__wrap_malloc(size_t bytes) {
-    void *block = is_refused() ? NULL : __real_malloc(bytes);
-    held += works && block;
-    return block;
-}
-
-void *__wrap_realloc(void *block, size_t bytes) {
-    return is_refused() ? NULL : __real_realloc(block, bytes);
-}
-
-void __wrap_free(void *block) {
-    held -= works && block;
-    __real_free(block);
-}
-
-static void begin(long place, bool after) {
-    requests = 0;
-    refused_at = place;
-    all_after = after;
-    works = true;
-}
 
 static size_t count_lines(struct bytes text) {
     size_t count = 0;

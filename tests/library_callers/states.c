@@ -33,11 +33,13 @@ static void closed(mirfodwel_session *session, const char *when) {
     expect(mirfodwel_explain_goal(session, 0, 9, 0, out, 0, out, 64, &used) == MIRFODWEL_WRONG_STATE, "explain_goal %s", when);
     expect(mirfodwel_last_fault(session, out, 64, &used) == MIRFODWEL_WRONG_STATE, "last_fault %s", when);
     expect(mirfodwel_held(session, &used) == MIRFODWEL_WRONG_STATE, "held %s", when);
+    expect(mirfodwel_held_bytes(session, &used) == MIRFODWEL_WRONG_STATE, "held_bytes %s", when);
     expect(mirfodwel_close(session) == MIRFODWEL_WRONG_STATE, "close %s", when);
     mirfodwel_row_fault fault = {9, 99};
     mirfodwel_goal past_the_end = {5, 5};
     expect(mirfodwel_reopen(session, &past_the_end, 1, (void *)goals, 0, (void *)goals, 0, &fault) == MIRFODWEL_WRONG_STATE, "reopen %s", when);
-    expect(fault.list == 9 && fault.place == 99, "reopen %s tells of a row", when);
+    expect(mirfodwel_change(session, &past_the_end, 1, (void *)goals, 0, (void *)goals, 0, &fault) == MIRFODWEL_WRONG_STATE, "change %s", when);
+    expect(fault.list == 9 && fault.place == 99, "reopen or change %s tells of a row", when);
     expect(is_untouched(&answer, sizeof answer) && is_untouched(out, sizeof out) && is_valid && used == 77, "a call %s writes something", when);
     expect(is_all_zero(session), "a call %s opens the session", when);
 }
@@ -188,6 +190,63 @@ static void reopened(const struct rows *rows) {
     closed(&session, "after it was opened again and closed");
 }
 
+/* Whether the goal has this outcome after so many runs. */
+static bool comes_to(mirfodwel_session *session, uint32_t goal, uint8_t outcome, uint64_t started, size_t *node) {
+    mirfodwel_answer answer = {0};
+    mirfodwel_status status = mirfodwel_ask(session, 9, goal, &answer);
+    *node = answer.node;
+    return expect(status == MIRFODWEL_DONE && answer.outcome == outcome && answer.started == started, "goal %u is %s after %zu runs, and not %s after %zu", goal,
+        outcome_words[answer.outcome & 3], (size_t)answer.started, outcome_words[outcome], (size_t)started);
+}
+
+/* Bad rows are not gone over to, and the session goes on over those so far. */
+static void not_changed(mirfodwel_session *session) {
+    mirfodwel_row_fault fault;
+    for (size_t place = 0; place < COUNT(bad); place++) {
+        const struct bad_rows *it = &bad[place];
+        if (it->list < 0)
+            continue;
+        mirfodwel_status status = mirfodwel_change(session, it->goals, 3, it->candidates, 2, it->questions, 2, &fault);
+        expect(status == MIRFODWEL_BAD_INPUT && fault.list == it->list && fault.place == it->place && session->is_open, "rows %zu are gone over to", place);
+    }
+}
+
+/* A session that goes over to rows that changed knows what that does not concern. */
+static void changed(const struct rows *rows) {
+    /* B and A in another order; then B without candidates; then A alone, which asks C, and that is not known. They share the other arrays. */
+    static const mirfodwel_goal moved[] = {{1, 1}, {0, 1}, {2, 1}, {0, 0}}, other[] = {{1, 1}, {3, 0}, {2, 1}}, fewer[] = {{2, 1}, {0, 0}, {7, MIRFODWEL_NOT_KNOWN}};
+    static const mirfodwel_candidate candidates[] = {{2, 1, 0}, {0, 1, 0}, {1, 1, 0}};
+    static const mirfodwel_question questions[] = {{MIRFODWEL_INDUCTIVE, 1}, {MIRFODWEL_INDUCTIVE, 2}, {MIRFODWEL_COINDUCTIVE, 0}};
+    mirfodwel_session session = {0};
+    mirfodwel_row_fault fault = {9, 99};
+    size_t of_a, of_c, node, used = 77;
+    uint64_t words[64];
+    expect(open_over(&session, rows, &fault) == MIRFODWEL_DONE, "it is not opened");
+    for (size_t turn = 0; turn < 3; turn++) {
+        comes_to(&session, 0, MIRFODWEL_YES, 2, &of_a);
+        comes_to(&session, 2, MIRFODWEL_NO, turn ? 0 : 1, &of_c);
+        not_changed(&session);
+        expect(mirfodwel_change(&session, moved, 4, candidates, 3, questions, 3, &fault) == MIRFODWEL_DONE && fault.list == 9, "the same rules are refused");
+        expect(comes_to(&session, 0, MIRFODWEL_YES, 0, &node) && node == of_a, "A is forgotten over the same rules");
+        expect(mirfodwel_change(&session, other, 3, candidates, 3, questions, 3, &fault) == MIRFODWEL_DONE, "other rules are refused");
+        expect(mirfodwel_graph(&session, of_a, words, 64, &used) == MIRFODWEL_UNKNOWN && used == 77, "the node of A is left");
+        expect(comes_to(&session, 2, MIRFODWEL_NO, 0, &node) && node == of_c, "C is forgotten");
+        expect(mirfodwel_graph(&session, of_c, words, 64, &used) == MIRFODWEL_DONE, "the node of C is gone");
+        comes_to(&session, 0, MIRFODWEL_NO, 2, &node);
+        expect(mirfodwel_ask(&session, 9, 3, &(mirfodwel_answer){0}) == MIRFODWEL_UNKNOWN, "D is still there");
+        expect(mirfodwel_change(&session, fewer, 3, candidates, 3, questions, 3, &fault) == MIRFODWEL_DONE, "fewer rules are refused");
+        expect(mirfodwel_graph(&session, of_c, words, 64, &used) == MIRFODWEL_UNKNOWN, "the node of C is left");
+        comes_to(&session, 0, MIRFODWEL_MAYBE, 2, &node);
+        expect(mirfodwel_wanted(&session, (uint32_t *)words, 64, &used) == MIRFODWEL_DONE && used == 1 && *(uint32_t *)words == 2, "C is not wanted");
+        expect(change_over(&session, rows, &fault) == MIRFODWEL_DONE, "the first rows are refused");
+        expect(mirfodwel_wanted(&session, (uint32_t *)words, 64, &used) == MIRFODWEL_DONE && used == 0, "C is wanted");
+        comes_to(&session, 2, MIRFODWEL_NO, 1, &of_c);
+        used = 77, fault.list = 9;
+    }
+    expect(mirfodwel_close(&session) == MIRFODWEL_DONE, "it is not closed");
+    closed(&session, "after it was changed and closed");
+}
+
 /* Arrays with no row at all are rules, too. */
 static void nothing_at_all(void) {
     mirfodwel_session session = {0};
@@ -261,30 +320,34 @@ static void bad_lines(void) {
     }
 }
 
-/* Asks in rounds: what was wanted is made known in the next one, until nothing is. Goal n asks n + 1, the last one holds. */
-static void rounds(void) {
-    mirfodwel_goal goals[8];
+/* Asks in rounds: what was wanted is made known in the next one, until nothing is. Goal n asks n + 1, the last one holds. All but the goals
+   stay where they are, and these too, but for a session that keeps what it knows. */
+static void rounds(bool keeps) {
+    mirfodwel_goal both[2][8];
     mirfodwel_candidate candidates[8];
     mirfodwel_question questions[8];
     size_t used = 1, turns = 0;
     uint32_t wanted[8] = {0}, next = 0;
     mirfodwel_answer answer;
     for (uint32_t place = 0; place < 8; place++) {
-        goals[place] = (mirfodwel_goal){MANY - place, MIRFODWEL_NOT_KNOWN};
+        both[0][place] = (mirfodwel_goal){MANY - place, MIRFODWEL_NOT_KNOWN};
         candidates[place] = (mirfodwel_candidate){place, place < 7, 0};
         questions[place] = (mirfodwel_question){MIRFODWEL_INDUCTIVE, place < 7 ? place + 1 : 0};
     }
     mirfodwel_session session = {0};
     while (used) {
         mirfodwel_row_fault fault;
-        mirfodwel_status status = (turns ? mirfodwel_reopen : mirfodwel_open)(&session, goals, 8, candidates, 8, questions, 8, &fault);
+        mirfodwel_goal *goals = both[keeps ? turns % 2 : 0], *others = both[keeps ? 1 - turns % 2 : 0];
+        mirfodwel_status status = (turns ? keeps ? mirfodwel_change : mirfodwel_reopen : mirfodwel_open)(
+            &session, goals, 8, candidates, 8, questions, 8, &fault);
         expect(status == MIRFODWEL_DONE, "round %zu is not opened", turns);
         expect(mirfodwel_ask(&session, 8, 0, &answer) == MIRFODWEL_DONE, "round %zu is not answered", turns);
         expect(answer.outcome == (next == 8 ? MIRFODWEL_YES : MIRFODWEL_MAYBE), "round %zu answers %s", turns, outcome_words[answer.outcome]);
         expect(mirfodwel_wanted(&session, wanted, 0, &used) == (next == 8 ? MIRFODWEL_DONE : MIRFODWEL_NO_ROOM), "round %zu wants %zu", turns, used);
         expect(mirfodwel_wanted(&session, wanted, 8, &used) == MIRFODWEL_DONE && used == (next < 8), "round %zu wants %zu goals", turns, used);
         if (used && expect(wanted[0] == next, "round %zu wants goal %u", turns, wanted[0])) {
-            goals[next] = (mirfodwel_goal){next, 1};
+            memmove(others, goals, sizeof both[0]);
+            others[next] = (mirfodwel_goal){next, 1};
             next++;
         }
         if (++turns > 9)
@@ -406,12 +469,14 @@ int main(void) {
     unknown(&rows);
     row_faults();
     reopened(&rows);
+    changed(&rows);
     nothing_at_all();
     short_arrays(table);
     short_arrays("rule A =\n");
     names(&rows);
     bad_lines();
-    rounds();
+    rounds(false);
+    rounds(true);
     shown(&rows);
     shown_by_number(&rows);
     causes();

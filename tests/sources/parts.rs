@@ -10,6 +10,7 @@
 //! | `names` | names that hash alike, with memory refused |
 //! | `declarations` | texts that declare types and traits, and types as texts |
 //! | `rows` | rules as rows: those of a text's table, and rows that are not in order |
+//! | `changes` | rows that change, and the goals that this concerns |
 //! | `random` | numbers that look random |
 //! | `faults` | the texts of faults |
 //!
@@ -17,6 +18,7 @@
 //! ask themselves.
 
 mod candidates;
+mod changes;
 mod components;
 mod declarations;
 mod depths;

@@ -210,6 +210,67 @@ fn is_as_new<L: LendsArrays, R: Abort>(
     Ok(())
 }
 
+/// The same rules as `ARRAYS`, but that goal 4 is known, and asks nothing.
+const KNOWN: Arrays<'static> = Arrays {
+    goals: &[
+        GoalRow { first: 0, count: 1 },
+        GoalRow { first: 1, count: 1 },
+        GoalRow { first: 2, count: 1 },
+        GoalRow { first: 3, count: 1 },
+        GoalRow { first: 4, count: 1 },
+        GoalRow {
+            first: 9,
+            count: NOT_KNOWN,
+        },
+        GoalRow { first: 4, count: 1 },
+    ],
+    candidates: CANDIDATES,
+    questions: QUESTIONS,
+};
+
+#[test]
+fn a_session_keeps_what_a_change_does_not_concern(rt: HostRuntime) -> Result<(), Fail> {
+    is_kept::<Arrays<'_>, HostRuntime>(&rt, rt.alloc(), ARRAYS, KNOWN)
+}
+
+fn is_kept<L: LendsArrays, R: Abort>(
+    rt: &R,
+    alloc: Global,
+    lender: L,
+    other: L,
+) -> Result<(), Fail> {
+    let mut session = Session::new(alloc, lender);
+    let yes = session.ask(DEPTH, 0)?;
+    let no = session.ask(DEPTH, 2)?;
+    assert!(rt; session.ask(DEPTH, 3)?.outcome == Outcome::Maybe);
+    let held = session.held_nodes();
+    for turn in 0..3u32 {
+        // Goal 3 asks 4, which is another one now.
+        session.change(other)?;
+        let changed = session.ask(DEPTH, 3)?;
+        assert!(rt;
+            changed.outcome == Outcome::Yes && changed.started == 2,
+            "turn {turn}"
+        );
+        session.change(lender)?;
+        let changed = session.ask(DEPTH, 3)?;
+        assert!(rt;
+            changed.outcome == Outcome::Maybe && changed.started > 0,
+            "turn {turn}"
+        );
+        assert!(rt; session.wanted()?.as_slice() == [4].as_slice());
+        assert!(rt; session.held_nodes() == held, "turn {turn}");
+
+        // All others are known as before, and their graphs are there.
+        let again = session.ask(DEPTH, 0)?;
+        assert!(rt; again.node == yes.node && again.started == 0, "turn {turn}");
+        assert!(rt; words_of(&session, again)?.as_slice() == WORDS);
+        let again = session.ask(DEPTH, 2)?;
+        assert!(rt; again.node == no.node && again.started == 0, "turn {turn}");
+    }
+    Ok(())
+}
+
 /// Goals 0 and 1 ask each other by a step of unknown kind, and 2 asks 0. Goal 3 asks itself by forced ambiguity. Goals 4 and 5 ask
 /// one further each, 6 holds, and 7 does not, since 8 has no rule.
 const RULES: &str =
