@@ -24,5 +24,7 @@ pub use candidates::{Candidate, Candidates};
 pub use delegate::TableDelegate;
 pub use delegate_parts::{Builder, Outcome};
 pub use reading::ReadFault;
+pub use reading::line::{Line, LineFault, line_of};
+pub use reading::question::Question;
 pub use rules::{Goal, Rules};
 pub use stop::{Stop, status_told};

@@ -3,7 +3,7 @@ ghost use Rattle.std.specs.Prelude.{◌≡◌, ℕ, IfOk, OnOk};
 ghost use Rattle.rule_tables.specs.Words.{Statement, Says, IsMalformed, Adds, Reads, IsFirstBadLine};
 
 mod depth;
-mod line;
+pub(super) mod line;
 pub(super) mod question;
 
 use crate::draft::Draft;

@@ -14,6 +14,13 @@ impl Goal {
     ghost use Rattle.std.specs.Prelude.{◌≡◌};
     ghost use Rattle.rule_tables.specs.Rules.{number_of};
 
+    /// The goal whose name has this number.
+    pub fn at(number: u32) -> Goal
+        ensures { number_of result ≡ number }
+    {
+        Goal(number)
+    }
+
     /// The number of its name.
     pub fn number(self) -> u32
         ensures { result ≡ number_of self }

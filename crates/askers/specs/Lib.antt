@@ -1,0 +1,3 @@
+pub mod Concerned
+pub mod Told
+pub mod Found
