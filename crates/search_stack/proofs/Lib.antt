@@ -1,3 +1,4 @@
 pub mod LastState
 pub mod StackReads
 pub mod Cycles
+pub mod Places

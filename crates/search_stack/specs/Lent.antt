@@ -21,7 +21,7 @@ module _ (X I R A T : RattleType) (C : Cx.Ghosts X.Denot I.Denot R.Denot A.Denot
 
   -- the row of what is lent of an entry
   abbrev State : RattleType
-  State = state.the_row X I R A T C eq hash same
+  State = state.the_row X I R A T eq hash
 
   -- the stack ends with the last value behind r as the last entry's state
   abbrev pub LendsLastState : MutBor Stack.Denot → MutBor State.Denot → Fml

@@ -1,11 +1,18 @@
 -- What is read of a stack, whose first entry stands first.
-use Rattle.std.specs.Prelude.{◌≡◌, ℕ, ◌-◌, ◌/◌, nat_eq, if◌then◌else◌, Bool, false, List, [], ◌∷◌, length, map}
+use Rattle.std.specs.Prelude.{◌≡◌, ℕ, ◌-◌, ◌/◌, nat_eq, if◌then◌else◌, Bool, true, false, List, [], ◌∷◌, length, map}
 use Rattle.std.specs.Prelude.{slice_index_or, Option, Some, None}
-use Rattle.std.specs.List.{position}
+use Rattle.std.specs.List.{IsDistinct, position}
+use Rattle.goal_paths.specs.Words.{IsIndex}
 use Rattle.search_stack.specs.Below.{PathKind}
 use Rattle.search_stack.specs.declared.depth.AvailableDepth.{AvailableDepth}
 use Rattle.search_stack.specs.declared.stack.EntryState.{EntryState}
 use Rattle.search_stack.specs.declared.stack.StackEntry.{StackEntry}
+
+-- no input stands there twice, and a map that was made says where each stands
+pub record AreFound {I : Type 0} (eq : I → I → Bool) (is_mapped : Bool) (depth : I → Option ℕ) (inputs : List I)
+    : Type 0 where
+  pub distinct : IsDistinct eq inputs
+  pub mapped : is_mapped ≡ true → IsIndex eq depth inputs
 
 module _ {X I R A T : Type 0} where
   -- the entry of a goal of which nothing is known yet

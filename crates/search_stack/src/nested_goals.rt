@@ -9,8 +9,9 @@ ghost use Rattle.heap_room.specs.Bytes.{CoversBytes};
 use goal_paths::held;
 use goal_paths::noted_goals::{self, NotedGoals};
 use path_kinds::path::{PathKind, PathsToNested};
-use search_context::context::{Cx, NoMemory};
+use search_context::context::NoMemory;
 use std::alloc::Global;
+use std::hash::Hash;
 use std::marker::Model;
 
 /// The nested goals of a goal, with the paths to each. Ports `NestedGoals`.
@@ -23,22 +24,22 @@ use std::marker::Model;
 /// Where a goal gives its nested goals to the one that asked it, only the smaller map of the two is walked, and a
 /// cycle of n goals moves at most n times the logarithm of n of them, and not the square of n.
 #[derive(Drop)]
-pub struct NestedGoals<X: Cx> {
-    goals: Option<Box<NotedGoals<X::Input>>>,
+pub struct NestedGoals<I: Eq + Hash + Copy> {
+    goals: Option<Box<NotedGoals<I>>>,
     alloc: Global,
 }
 
-impl<X: Cx> Model for NestedGoals<X> {
+impl<I: Eq + Hash + Copy> Model for NestedGoals<I> {
     ghost use Rattle.goal_paths.specs.Nested.{NestedPaths, held};
 
-    ghost Value = { NestedPaths X.Input };
+    ghost Value = { NestedPaths I };
 
     ghost view = { λ g. held g.goals };
 }
 
-impl<X: Cx> NestedGoals<X> {
+impl<I: Eq + Hash + Copy> NestedGoals<I> {
     /// No goals.
-    pub fn new(alloc: Global) -> NestedGoals<X>
+    pub fn new(alloc: Global) -> NestedGoals<I>
         ensures { result ≡ [] }
     {
         NestedGoals { goals: None, alloc }
@@ -66,15 +67,15 @@ impl<X: Cx> NestedGoals<X> {
     }
 
     /// Whether the goal is there. Ports `NestedGoals::contains`.
-    pub fn contains(&self, input: X::Input) -> bool
-        ensures { result ≡ is_some (paths_at X.Input.eq self.now input) }
+    pub fn contains(&self, input: I) -> bool
+        ensures { result ≡ is_some (paths_at I.eq self.now input) }
     {
         self.get(input).is_some()
     }
 
     /// The paths to the goal, where it is there.
-    pub fn get(&self, input: X::Input) -> Option<PathsToNested>
-        ensures { result ≡ paths_at X.Input.eq self.now input }
+    pub fn get(&self, input: I) -> Option<PathsToNested>
+        ensures { result ≡ paths_at I.eq self.now input }
     {
         match &self.goals {
             Some(goals) => goals.get(input),
@@ -84,10 +85,10 @@ impl<X: Cx> NestedGoals<X> {
 
     /// Joins paths to the goal, which becomes one of the goals. Only a new goal takes memory, and a
     /// refusal changes nothing. Ports `NestedGoals::insert`.
-    pub fn insert(&mut self, input: X::Input, paths: PathsToNested) -> Result<(), NoMemory>
-        ensures ok { OnOk result (JoinsPaths X.Input.eq self.old self.new input paths) }
+    pub fn insert(&mut self, input: I, paths: PathsToNested) -> Result<(), NoMemory>
+        ensures ok { OnOk result (JoinsPaths I.eq self.old self.new input paths) }
         ensures err { OnErr result (self.new ≡ self.old) }
-        ensures known { IsSome (paths_at X.Input.eq self.old input) → IsOk result }
+        ensures known { IsSome (paths_at I.eq self.old input) → IsOk result }
     {
         held::insert(&mut self.goals, self.alloc, input, paths)
     }
@@ -98,9 +99,9 @@ impl<X: Cx> NestedGoals<X> {
     pub fn extend_from_child(
         &mut self,
         step: PathKind,
-        nested: &NestedGoals<X>,
+        nested: &NestedGoals<I>,
     ) -> Result<(), NoMemory>
-        ensures ok { OnOk result (JoinsEach X.Input.eq (λ paths. extended paths step) self.old
+        ensures ok { OnOk result (JoinsEach I.eq (λ paths. extended paths step) self.old
             nested.now self.new) }
         ensures err { OnErr result (self.new ≡ self.old) }
         ensures none { nested.now ≡ [] → IsOk result }
@@ -113,9 +114,9 @@ impl<X: Cx> NestedGoals<X> {
     pub fn take_from_child(
         &mut self,
         step: PathKind,
-        nested: &mut NestedGoals<X>,
+        nested: &mut NestedGoals<I>,
     ) -> Result<(), NoMemory>
-        ensures ok { OnOk result (JoinsEach X.Input.eq (λ paths. extended paths step) self.old
+        ensures ok { OnOk result (JoinsEach I.eq (λ paths. extended paths step) self.old
             nested.old self.new) }
         ensures err { OnErr result (self.new ≡ self.old) }
         ensures none { nested.old ≡ [] → IsOk result }
@@ -133,9 +134,9 @@ impl<X: Cx> NestedGoals<X> {
     }
 
     /// The goals with the paths to them, in an order that is left open. Ports `NestedGoals::iter`.
-    pub fn iter(&self) -> Iter<'_, X>
+    pub fn iter(&self) -> Iter<'_, I>
         ensures goals { result ≡ self.now }
-        ensures distinct { IsDistinct X.Input.eq (keys_of self.now) }
+        ensures distinct { IsDistinct I.eq (keys_of self.now) }
         ensures fits { length self.now < 2 ^ 63 }
     {
         let goals = match &self.goals {
@@ -148,28 +149,28 @@ impl<X: Cx> NestedGoals<X> {
 
 /// The goals of a map, with the paths to each.
 #[derive(Drop)]
-pub struct Iter<'a, X: Cx> {
-    goals: Option<noted_goals::Iter<'a, X::Input>>,
+pub struct Iter<'a, I: Copy> {
+    goals: Option<noted_goals::Iter<'a, I>>,
 }
 
-impl<'a, X: Cx> Model for Iter<'a, X> {
+impl<'a, I: Copy> Model for Iter<'a, I> {
     ghost use Rattle.goal_paths.specs.Nested.{NestedPaths, goals_in};
 
-    ghost Value = { NestedPaths X.Input };
+    ghost Value = { NestedPaths I };
 
     ghost view = { λ s. goals_in s.goals };
 }
 
-impl<'a, X: Cx> Iterator for Iter<'a, X> {
+impl<'a, I: Copy> Iterator for Iter<'a, I> {
     ghost use Rattle.std.specs.Iterator.{YieldsFirst, item_count};
 
-    type Item = (X::Input, PathsToNested);
+    type Item = (I, PathsToNested);
 
     ghost next_gives = { YieldsFirst (λ goals. goals) };
 
     ghost remaining = { item_count (λ goals. goals) };
 
-    fn next(&mut self) -> Option<(X::Input, PathsToNested)> {
+    fn next(&mut self) -> Option<(I, PathsToNested)> {
         match &mut self.goals {
             Some(goals) => goals.next(),
             None => None,

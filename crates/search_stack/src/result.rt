@@ -16,7 +16,7 @@ pub struct EvaluationResult<X: Cx> {
     /// The goals on the stack that the result rests on. Without heads it holds on its own.
     pub heads: CycleHeads,
     /// The goals that were asked below the goal in its runs.
-    pub nested_goals: NestedGoals<X>,
+    pub nested_goals: NestedGoals<X::Input>,
     /// The result of the last run, or what stands for it where the goal had its most runs.
     pub result: X::Result,
     /// The node of a definite result.
@@ -69,7 +69,7 @@ pub struct CacheData<'a, X: Cx> {
     /// Whether the result met overflow.
     pub encountered_overflow: bool,
     /// The goals that were asked below the goal.
-    pub nested_goals: &'a NestedGoals<X>,
+    pub nested_goals: &'a NestedGoals<X::Input>,
     /// The node of a definite result.
     pub node: Option<NodeId>,
 }

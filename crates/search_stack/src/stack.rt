@@ -1,10 +1,11 @@
 //! The goals under evaluation, from the first one up.
 ghost use Rattle.std.specs.Prelude.{◌≡◌, ℕ, ◌+◌, ◌-◌, ◌^◌, ◌<◌, List, [], ◌∷◌, ◌++◌, length, IfOk, OnOk, OnErr, IfSome, Some, is_some, IsTrue, ◌↔◌, None, false, slice_index_or, drop, map, vec_len, vec_capacity};
-ghost use Rattle.std.specs.HashMap.{Updates};
+ghost use Rattle.std.specs.HashMap.{Updates, get};
+ghost use Rattle.std.specs.List.{IsDistinct, position};
 ghost use Rattle.std.specs.Option.{option_map};
 ghost use Rattle.std.specs.Slice.Iter.{iter_rest};
 ghost use Rattle.search_stack.specs.Words.{position_of};
-ghost use Rattle.goal_paths.specs.Words.{TellsKinds};
+ghost use Rattle.goal_paths.specs.Words.{IsIndex, TellsKinds};
 
 use crate::depth::{AvailableDepth, StackDepth};
 use crate::nested_goals::NestedGoals;
@@ -23,6 +24,9 @@ use std::marker::Model;
 use std::ops::Index;
 use std::slice;
 
+/// So many goals are looked through in less time than a map would take, which asks for memory four times.
+const FEW: usize = 8;
+
 /// What changes of an entry while its goal is evaluated. Ports the fields of `StackEntry` that the search
 /// writes. They lie in memory as they stand here, so the small ones come last.
 #[derive(Drop)]
@@ -32,7 +36,7 @@ pub struct EntryState<X: Cx> {
     /// What the candidate that is open used of the goals on the stack. `None` where none is open.
     pub candidate_usages: Option<CandidateHeadUsages>,
     /// The goals that were asked below this one.
-    pub nested_goals: NestedGoals<X>,
+    pub nested_goals: NestedGoals<X::Input>,
     /// The node that answers of cycles to this goal lead to: in the first run that run's own, and then that
     /// of the provisional result. `None` in a new entry, until its first frame starts.
     pub node: Option<NodeId>,
@@ -112,6 +116,9 @@ impl<X: Cx> StackEntry<X> {
 #[derive(Drop)]
 pub struct Stack<X: Cx> {
     entries: Vec<StackEntry<X>>,
+    /// Whether there were so many goals that a map was made to find them.
+    is_mapped: bool,
+    /// The place of each input, if that map was made.
     depths: HashMap<X::Input, usize>,
     /// For each entry, where the last steps up to it are.
     steps: Vec<LastSteps>,
@@ -121,14 +128,14 @@ impl<X: Cx> Model for Stack<X> {
     ghost use Rattle.std.specs.Prelude.{List, map};
     ghost use Rattle.std.specs.HashMap as hash;
     ghost use Rattle.search_stack.specs.declared.stack.StackEntry.{StackEntry};
-    ghost use Rattle.goal_paths.specs.StackIndex.{IsIndex};
+    ghost use Rattle.search_stack.specs.Stack.{AreFound};
     ghost use Rattle.goal_paths.specs.Steps.{AreLastSteps};
 
     ghost Value = { List (StackEntry X X.Input X.Result X.AmbiguityInfo X.DepNodeIndex) };
 
     ghost view = { λ s. s.entries.items };
 
-    ghost invariant = { λ s. IsIndex X.Input.eq (hash.get X.Input.eq s.depths) (map (λ e. e.input) s.entries.items)
+    ghost invariant = { λ s. AreFound X.Input.eq s.is_mapped (hash.get X.Input.eq s.depths) (map (λ e. e.input) s.entries.items)
         × AreLastSteps s.steps.items (map (λ e. e.step_kind_from_parent) s.entries.items) };
 }
 
@@ -139,6 +146,7 @@ impl<X: Cx> Stack<X> {
     {
         Stack {
             entries: Vec::new(alloc),
+            is_mapped: false,
             depths: HashMap::new(alloc),
             steps: Vec::new(alloc),
         }
@@ -178,10 +186,20 @@ impl<X: Cx> Stack<X> {
         ensures present { is_some result ≡ is_some (position_of X.Input.eq input self.now) }
         ensures on_stack { IfSome result (λ d. d.0 < length self.now) }
     {
-        match self.depths.get(&input) {
-            Some(depth) => Some(StackDepth::new(*depth)),
+        match self.place_of(input) {
+            Some(place) => Some(StackDepth::new(place)),
             None => None,
         }
+    }
+
+    /// Where the entry with that input stands.
+    fn place_of(&self, input: X::Input) -> Option<usize>
+        ensures { result ≡ position_of X.Input.eq input self.now }
+    {
+        if self.is_mapped {
+            return self.depths.get(&input).copied();
+        }
+        place_among(self.entries.as_slice(), input)
     }
 
     /// The last entry.
@@ -200,16 +218,30 @@ impl<X: Cx> Stack<X> {
             × (self.new ≡ self.old ++ entry ∷ [])) }
         ensures err { OnErr result (self.new ≡ self.old) }
     {
+        self.map_many()?;
         let steps = self.steps_with(entry.step_kind_from_parent);
         let depth = note_place(
             &mut self.entries,
             &mut self.steps,
             &mut self.depths,
+            self.is_mapped,
             entry.input,
             steps,
         )?;
         self.entries.push_reserved(entry);
         Ok(depth)
+    }
+
+    /// Makes the map of the places, if there are many goals and it was not made yet.
+    #[inline(always)]
+    fn map_many(&mut self) -> Result<(), NoMemory>
+        ensures { self.new ≡ self.old }
+    {
+        if !self.is_mapped && self.entries.len() >= FEW {
+            self.depths = mapped(*self.entries.allocator(), self.entries.as_slice())?;
+            self.is_mapped = true;
+        }
+        Ok(())
     }
 
     /// Where the last steps of the stack will be with one more step.
@@ -228,7 +260,7 @@ impl<X: Cx> Stack<X> {
     {
         self.give_room_back();
         let input = self.last().input;
-        let _ = self.depths.remove(&input);
+        forget_place(&mut self.depths, self.is_mapped, input);
         let _ = self.steps.pop();
         self.entries.pop().unwrap()
     }
@@ -259,12 +291,13 @@ fn note_place<E, S: Copy, I: Eq + Hash + Copy>(
     entries: &mut Vec<E>,
     steps: &mut Vec<S>,
     depths: &mut HashMap<I, usize>,
+    is_mapped: bool,
     input: I,
     step: S,
 ) -> Result<StackDepth, NoMemory>
     ensures place { IfOk result (λ depth. depth.0 ≡ length entries.old.items) }
-    ensures noted { OnOk result
-        (Updates I.eq depths.old depths.new input (Some (length entries.old.items))) }
+    ensures noted { OnOk result (IsTrue is_mapped →
+        Updates I.eq depths.old depths.new input (Some (length entries.old.items))) }
     ensures entries { entries.new.items ≡ entries.old.items }
     ensures room { OnOk result (vec_len entries.new < vec_capacity entries.new) }
     ensures step { OnOk result (steps.new.items ≡ steps.old.items ++ step ∷ []) }
@@ -274,9 +307,45 @@ fn note_place<E, S: Copy, I: Eq + Hash + Copy>(
     entries.reserve(1)?;
     steps.reserve(1)?;
     let depth = entries.len();
-    depths.insert(input, depth)?;
+    if is_mapped {
+        depths.insert(input, depth)?;
+    }
     steps.push_reserved(step);
     Ok(StackDepth::new(depth))
+}
+
+/// Forgets where the input stood, if its place is in the map.
+#[inline(always)]
+fn forget_place<I: Eq + Hash + Copy>(depths: &mut HashMap<I, usize>, is_mapped: bool, input: I)
+    ensures { IsTrue is_mapped → Updates I.eq depths.old depths.new input None }
+{
+    if is_mapped {
+        let _ = depths.remove(&input);
+    }
+}
+
+/// Where the first of the entries with that input stands.
+fn place_among<X: Cx>(entries: &[StackEntry<X>], input: X::Input) -> Option<usize>
+    ensures { result ≡ position (λ entry. X.Input.eq input entry.input) entries.now }
+{
+    entries.iter().position(|entry| input == entry.input)
+}
+
+/// A map of the places of the entries' inputs. It stays out of `push`, which seldom makes one.
+#[inline(never)]
+fn mapped<X: Cx>(
+    alloc: Global,
+    entries: &[StackEntry<X>],
+) -> Result<HashMap<X::Input, usize>, NoMemory>
+    requires { IsDistinct X.Input.eq (map (λ e. e.input) entries.now) }
+    ensures { IfOk result (λ depths.
+        IsIndex X.Input.eq (get X.Input.eq depths) (map (λ e. e.input) entries.now)) }
+{
+    let mut depths = HashMap::new(alloc);
+    for place in 0..entries.len() {
+        depths.insert(entries[place].input, place)?;
+    }
+    Ok(depths)
 }
 
 impl<X: Cx> Stack<X> {

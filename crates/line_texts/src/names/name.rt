@@ -51,8 +51,9 @@ impl PartialEq for Name {
 
     ghost laws = { on_per (λ x. take x.length x.bytes) (partial_equiv_from_equiv nat_list_eq_equiv) };
 
+    // All bytes at once, whatever the length is: behind a name are zeros.
     fn eq(&self, other: &Name) -> bool {
-        self.text() == other.text()
+        self.length == other.length && self.bytes == other.bytes
     }
 }
 

@@ -9,7 +9,7 @@ use Rattle.search_stack.proofs.nested_goals.NestedGoals.iter.Goals.{in-Some, in-
 pub returns-clause-distinct : goal.returns-clause-distinct
 unfolding IsDistinct
 returns-clause-distinct g c =
-    let same = g.X.Input.PartialEq.eq in
+    let same = g.I.PartialEq.eq in
     elim c.match-self.branch [
       | in-Some w ↦ subst (λ goals. IsDistinct same (keys_of goals))
           (w.deref.ensures ∙ sym (ap (λ goals. goals_in (option_map (λ b. b.value) goals)) w.in-Some.is)

@@ -3,7 +3,7 @@ use Rattle.std.proofs.Math.Seq.{get_or-append_seam}
 use Rattle.std.proofs.lemmas.List.{map-append}
 use Rattle.std.proofs.lemmas.Grind.{common_steps}
 use Rattle.goal_paths.proofs.LastSteps.{AreLastSteps-pop}
-use Rattle.goal_paths.proofs.StackIndex.{IsIndex-pop}
+use Rattle.search_stack.proofs.Places.{found_pop}
 use Rattle.search_stack.proofs.stack.Stack.pop.Goals as goal
 
 -- what stands at the last place is the last one
@@ -22,10 +22,10 @@ invariant_of-self g c =
     let parts : all ≡ rest ++ c.unwrap.result ∷ [] = grind (arith, common_steps) in
     let last : c.last.result.now ≡ c.unwrap.result =
     last_of all rest c.unwrap.result c.last.result.now parts (rw (← c.self.view_is) at c.last.ensures) in (
-      IsIndex-pop g.X.Input.PartialEq.eq g.met.X.Input.Eq.laws g.met.X.Cx.same_input _ _ _
+      found_pop g.X.Input.PartialEq.eq g.met.X.Input.Eq.laws g.met.X.Cx.same_input c.self.inside.is_mapped _ _ _
           (map (λ e. e.input) c.self.inside.entries.items) c.unwrap.result.input
           c.self.invariant.0 (ap (map (λ e. e.input)) parts ∙ map-append (λ e. e.input) rest (c.unwrap.result ∷ []))
-          (λ q. rw (← last) (c.remove.ensures.updates.0 q)),
+          (λ there q. rw (← last) ((c.forget_place.ensures there).0 q)),
       AreLastSteps-pop _ (map (λ e. e.step_kind_from_parent) c.self.inside.entries.items) _
           c.unwrap.result.step_kind_from_parent _ _
           (ap (map (λ e. e.step_kind_from_parent)) parts ∙ map-append (λ e. e.step_kind_from_parent) rest

@@ -2,7 +2,7 @@ use Rattle.std.proofs.Common.{◌≡◌, ◌++◌, [], ◌∷◌, length, map, s
 use Rattle.std.proofs.lemmas.List.{length-map, map-append}
 use Rattle.goal_paths.specs.Words.{AreLastSteps, TellsKinds}
 use Rattle.goal_paths.proofs.LastSteps.{AreLastSteps-push}
-use Rattle.goal_paths.proofs.StackIndex.{IsIndex-push}
+use Rattle.search_stack.proofs.Places.{found_push}
 use Rattle.search_stack.proofs.stack.Stack.push.Goals as goal
 
 -- the new input is found at the old length, and each other one where it was; and the new step is the last of its kind
@@ -21,11 +21,12 @@ invariant_of-self-2 g c =
     (map (λ e. e.step_kind_from_parent) c.push_reserved.new.self.items) =
     rw (more, c.in_ok-depth.ensures.step)
     (AreLastSteps-push c.self.inside.steps.items kinds c.steps_with-steps.result kind told c.self.invariant.1) in (
-      IsIndex-push g.X.Input.PartialEq.eq g.met.X.Input.Eq.laws g.met.X.Cx.same_input _ _
+      found_push g.X.Input.PartialEq.eq g.met.X.Input.Eq.laws g.met.X.Cx.same_input c.self.inside.is_mapped _ _
           (map (λ e. e.input) old) _ c.args.entry.input (length old)
-          c.self.invariant.0 (rw c.self.view_is c.requires.absent) (sym (length-map old (λ e. e.input)))
+          c.self.invariant.0 (rw (c.self.view_is, c.map_many.ensures) c.requires.absent)
+          (sym (length-map old (λ e. e.input)))
           (ap (map (λ e. e.input)) all ∙ map-append (λ e. e.input) old (c.args.entry ∷ []))
-          (λ q. c.in_ok-depth.ensures.noted.0 q),
+          (λ there q. (c.in_ok-depth.ensures.noted there).0 q),
       last,
     )
 
