@@ -6,11 +6,13 @@
 //! | `nested_goals`, `stack`, `depths`, `results` | the goals under evaluation |
 //! | `reuse`, `rebasing` | the provisional cache: which entries are used, cleared and rebased |
 //! | `stored`, `nodes` | the global cache: stored results, nodes, and graphs that are handed out |
+//! | `forgetting` | nodes of goals that are forgotten, beside a plain list |
 //! | `components` | strongly connected components |
 //! | `names` | names that hash alike, with memory refused |
 //! | `declarations` | texts that declare types and traits, and types as texts |
 //! | `rows` | rules as rows: those of a text's table, and rows that are not in order |
 //! | `changes` | rows that change, and the goals that this concerns |
+//! | `open_tables` | rules that change, and the goals that a change concerns, with memory refused |
 //! | `random` | numbers that look random |
 //! | `faults` | the texts of faults |
 //!
@@ -24,10 +26,12 @@ mod declarations;
 mod depths;
 mod entries;
 mod faults;
+mod forgetting;
 mod heads;
 mod names;
 mod nested_goals;
 mod nodes;
+mod open_tables;
 mod paths;
 mod random;
 mod rebasing;

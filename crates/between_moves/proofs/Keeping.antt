@@ -10,7 +10,7 @@ use Rattle.between_moves.specs.Evaluations.{ChangesCache, KeepsCache}
 
 module _ {C F I R A T : Type 0} (same : I → I → Bool) (goals : List (OpenGoal C F I R A T)) where
   -- one that changes nothing
-  pub cache_stays : (cache : Cache C I R A T) → KeepsCache same goals cache cache
+  pub cache_stays : (cache : Cache C I R T) → KeepsCache same goals cache cache
   cache_stays cache = record {
     context = refl;
     results = KeepsResults-same same cache.results cache.results refl;
@@ -19,7 +19,7 @@ module _ {C F I R A T : Type 0} (same : I → I → Bool) (goals : List (OpenGoa
   }
 
   -- and one that appends nodes
-  pub appending_keeps : (old new : Cache C I R A T) → new ≡ record old { nodes = new.nodes }
+  pub appending_keeps : (old new : Cache C I R T) → new ≡ record old { nodes = new.nodes }
       → KeepsNodes old.nodes new.nodes → KeepsCache same goals old new
   appending_keeps old new is kept = record {
     context = ap (λ cache. cache.cx) is;
@@ -29,7 +29,7 @@ module _ {C F I R A T : Type 0} (same : I → I → Bool) (goals : List (OpenGoa
   }
 
   -- and one that ends the newest goal's run
-  pub ending_keeps : (old new : Cache C I R A T) (s : OpenGoal C F I R A T) (below : List (OpenGoal C F I R A T))
+  pub ending_keeps : (old new : Cache C I R T) (s : OpenGoal C F I R A T) (below : List (OpenGoal C F I R A T))
       → goals ≡ s ∷ below → new.cx ≡ old.cx → KeepsResults same old.results new.results
       → KeepsFinished old.nodes new.nodes → KeepsBut s.1.node.0 old.nodes new.nodes → KeepsCache same goals old new
   ending_keeps old new s below was context results nodes but = record {
@@ -40,7 +40,7 @@ module _ {C F I R A T : Type 0} (same : I → I → Bool) (goals : List (OpenGoa
   }
 
   -- and one that leaves the stored results
-  pub leaves_results : (old new : Cache C I R A T) → new ≡ record old { nodes = new.nodes }
+  pub leaves_results : (old new : Cache C I R T) → new ≡ record old { nodes = new.nodes }
       → KeepsFinished old.nodes new.nodes → KeepsEarlier goals old.nodes new.nodes → ChangesCache same goals old new
   leaves_results old new is kept earlier = record {
     keeps = record {
@@ -59,7 +59,7 @@ module _ {X F I R A T : Type 0} (nodes : List (CacheNode I R)) (one two three : 
 
 -- what is kept for later goals is kept for earlier ones
 pub later_keeps :
-    {C F I R A T : Type 0} (same : I → I → Bool) (goals later : List (OpenGoal C F I R A T)) (old new : Cache C I R A T)
+    {C F I R A T : Type 0} (same : I → I → Bool) (goals later : List (OpenGoal C F I R A T)) (old new : Cache C I R T)
     → StayFrom old.nodes goals later → KeepsCache same later old new → KeepsCache same goals old new
 later_keeps same goals later old new stays keeps = record {
   context = keeps.context;

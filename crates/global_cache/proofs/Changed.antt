@@ -10,7 +10,7 @@ use Rattle.search_context.specs.declared.context.Request.TheVariants.{FinishCand
 use Rattle.path_kinds.specs.declared.path.PathKind.{PathKind}
 use Rattle.global_cache.specs.Below.{AreRuns, CacheNode, HasGraph, IsPlainTo, IsRun, NodeId, Reply, Request}
 use Rattle.global_cache.specs.Below.{Verdicts}
-use Rattle.global_cache.specs.Words.{AreSoundResults, Cache, IsPlainAt, IsSoundCache, KeepsOtherNodes}
+use Rattle.global_cache.specs.Words.{AreSoundFindings, AreSoundResults, Findings, IsPlainAt, KeepsOtherNodes}
 use Rattle.global_cache.specs.Words.{KeepsOtherResults, KeepsOthers, Place, Store, stored_at, StoredResult, Success}
 use Rattle.global_cache.specs.Words.{WithOverflow}
 use Rattle.graph_nodes.specs.Words.{Collected}
@@ -129,7 +129,7 @@ module _ {I R : Type 0} (is_gone : I → Bool) (before after : I → List (Reply
     HasGraph-changed goal r node stays = HasGraph-live (stays_in is_gone old) old new collected says goal r node
         (node_of_stays is_gone old goal node stays)
 
-    AreSoundResults-changed : {X A T : Type 0} (same : I → I → Bool) (was now : Store I (StoredResult X I R A T))
+    AreSoundResults-changed : {T : Type 0} (same : I → I → Bool) (was now : Store I (StoredResult I R T))
         → KeepsOtherResults same is_gone was now → AreSoundResults same says before old was
         → AreSoundResults same says after new now
     AreSoundResults-changed same was now left sound input place s is =
@@ -140,15 +140,14 @@ module _ {I R : Type 0} (is_gone : I → Bool) (before after : I → List (Reply
           plain = IsPlainAt-on input there.0 place s.result.result k.plain;
         }
 
--- A sound cache for the rules before is, without what is gone, one for the rules after.
-pub IsSoundCache-changed : {X I R A T : Type 0} (same : I → I → Bool) (says : Verdicts R)
-    (scripts : X → I → List (Reply R) → Request I R) (is_gone : I → Bool) (was : Cache X I R A T) (cx : X)
-    (nodes : List (CacheNode I R)) (results : Store I (StoredResult X I R A T))
-    → KeepsOthers is_gone (scripts was.cx) (scripts cx) → KeepsOtherNodes is_gone was.nodes nodes
-    → KeepsOtherResults same is_gone was.results results → IsSoundCache same says scripts was
-    → IsSoundCache same says scripts (record { cx = cx; nodes = nodes; results = results })
-IsSoundCache-changed same says scripts is_gone was cx nodes results others kept left sound = record {
-  runs = AreRuns-changed is_gone (scripts was.cx) (scripts cx) others says was.nodes nodes kept sound.runs;
-  results = AreSoundResults-changed is_gone (scripts was.cx) (scripts cx) others says was.nodes nodes kept sound.runs
-      same was.results results left sound.results;
+-- Sound findings by the scripts before are, without what is gone, sound ones by those after.
+pub AreSoundFindings-changed : {I R T : Type 0} (same : I → I → Bool) (says : Verdicts R)
+    (before after : I → List (Reply R) → Request I R) (is_gone : I → Bool) (old new : Findings I R T)
+    → KeepsOthers is_gone before after → KeepsOtherNodes is_gone old.nodes new.nodes
+    → KeepsOtherResults same is_gone old.results new.results → AreSoundFindings same says before old
+    → AreSoundFindings same says after new
+AreSoundFindings-changed same says before after is_gone old new others kept left sound = record {
+  runs = AreRuns-changed is_gone before after others says old.nodes new.nodes kept sound.runs;
+  results = AreSoundResults-changed is_gone before after others says old.nodes new.nodes kept sound.runs
+      same old.results new.results left sound.results;
 }

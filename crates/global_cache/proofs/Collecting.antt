@@ -6,8 +6,8 @@ use Rattle.graph_nodes.proofs.Collecting.{HasGraph-live, root_is_live}
 
 module _ {I R : Type 0} (live : ℕ → Bool) (old new : List (CacheNode I R)) (collected : Collected live old new)
     (says : Verdicts R) (scripts : I → List (Reply R) → Request I R) where
-  pub AreSoundResults-collected : {X A T : Type 0} (same : I → I → Bool) (first : ℕ) (roots : List NodeId)
-      (results : Store I (StoredResult X I R A T)) → AreLive old first roots live → AreRooted same first roots results
+  pub AreSoundResults-collected : {T : Type 0} (same : I → I → Bool) (first : ℕ) (roots : List NodeId)
+      (results : Store I (StoredResult I R T)) → AreLive old first roots live → AreRooted same first roots results
       → AreSoundResults same says scripts old results → AreSoundResults same says scripts new results
   AreSoundResults-collected same first roots results lives rooted sound input place s is =
       let k = sound input place s is in

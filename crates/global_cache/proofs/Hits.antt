@@ -6,9 +6,9 @@ use Rattle.global_cache.specs.Below.{NestedPaths}
 use Rattle.global_cache.specs.Words.{Success, WithOverflow, StoredResult, Hit, successes, overflows, usable}
 use Rattle.global_cache.specs.Words.{first_accepted, Store, stored_at}
 
-pub looks_up : {X I R A T : Type 0} (accepts : NestedPaths I → Bool) (same : I → I → Bool)
-    (store : Store I (StoredResult X I R A T)) (input : I) (available : ℕ)
-    (success overflow : Option (StoredResult X I R A T)) (first later : Option (Hit I R T))
+pub looks_up : {I R T : Type 0} (accepts : NestedPaths I → Bool) (same : I → I → Bool)
+    (store : Store I (StoredResult I R T)) (input : I) (available : ℕ)
+    (success overflow : Option (StoredResult I R T)) (first later : Option (Hit I R T))
     → success ≡ stored_at same store input Success → overflow ≡ stored_at same store input (WithOverflow available)
     → first ≡ first_accepted accepts (successes available success)
     → later ≡ first_accepted accepts (overflows available overflow)
@@ -19,9 +19,9 @@ looks_up accepts same store input available success overflow first later s o f l
     ∙ (λ i. first_accepted accepts (successes available (s i) ++ overflows available (o i)))
 
 -- a success that is used needs no look at the overflow result
-pub finds_success : {X I R A T : Type 0} (accepts : NestedPaths I → Bool) (same : I → I → Bool)
-    (store : Store I (StoredResult X I R A T)) (input : I) (available : ℕ)
-    (success : Option (StoredResult X I R A T)) (hit : Hit I R T)
+pub finds_success : {I R T : Type 0} (accepts : NestedPaths I → Bool) (same : I → I → Bool)
+    (store : Store I (StoredResult I R T)) (input : I) (available : ℕ)
+    (success : Option (StoredResult I R T)) (hit : Hit I R T)
     → success ≡ stored_at same store input Success
     → Some hit ≡ first_accepted accepts (successes available success)
     → Some hit ≡ first_accepted accepts (usable same store input available)

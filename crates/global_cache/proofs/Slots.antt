@@ -9,8 +9,8 @@ use Rattle.graph_nodes.proofs.Finished.{found_finished}
 use Rattle.graph_nodes.proofs.NodeLists.{appended}
 
 -- a cache whose context, nodes and results are these
-module _ {X I R A T : Type 0} (cx : X) (nodes : List (CacheNode I R)) (results : Store I (StoredResult X I R A T))
-    (cache : Cache X I R A T) (view : record { cx = cx; nodes = nodes; results = results } ≡ cache) where
+module _ {X I R T : Type 0} (cx : X) (nodes : List (CacheNode I R)) (results : Store I (StoredResult I R T))
+    (cache : Cache X I R T) (view : record { cx = cx; nodes = nodes; results = results } ≡ cache) where
   module _ (grew : Bool) (goal : I) (more : List (CacheNode I R)) (is : more ≡ appended grew nodes goal) where
     pub nodes_pushed : more ≡ appended grew cache.nodes goal
     nodes_pushed = is ∙ ap (λ c. appended grew c.nodes goal) view
@@ -22,11 +22,11 @@ module _ {X I R A T : Type 0} (cx : X) (nodes : List (CacheNode I R)) (results :
 
   module _ (k : ℕ) (run : EndedRun I R) where
     pub open_there : IsSome (open_goal cache.nodes k) → IsSome (open_goal nodes k)
-    open_there is_open = subst (λ (c : Cache X I R A T). IsSome (open_goal c.nodes k)) (sym view) is_open
+    open_there is_open = subst (λ (c : Cache X I R T). IsSome (open_goal c.nodes k)) (sym view) is_open
 
     module _ (more : List (CacheNode I R)) (is : more ≡ with_run nodes k run) where
       pub nodes_ended : more ≡ with_run cache.nodes k run
-      nodes_ended = is ∙ ap (λ (c : Cache X I R A T). with_run c.nodes k run) view
+      nodes_ended = is ∙ ap (λ (c : Cache X I R T). with_run c.nodes k run) view
 
       -- what the whole cache is then
       pub cache_ended : record { cx = cx; nodes = more; results = results }

@@ -6,7 +6,7 @@ use Rattle.std.specs.Option.{IsSomeAnd, IfSome, option_map}
 use Rattle.global_cache.specs.Below.{Request, Reply, EvaluationResult, NestedPaths, NodeId, Verdicts, EndedRun}
 use Rattle.global_cache.specs.Below.{CacheNode, open_goal, with_run, IsRun, HasGraph, AreLive, Collected}
 use Rattle.global_cache.specs.Words.{CacheData, Place, StoredResult, Cache, hit_of, first_accepted, usable}
-use Rattle.global_cache.specs.Words.{IsSoundCache, Store, Puts, place_of, stored_from, IsPlainAt}
+use Rattle.global_cache.specs.Words.{AreSoundFindings, IsSoundCache, Store, Puts, place_of, stored_from, IsPlainAt}
 use Rattle.global_cache.specs.Words.{IsSoundResult, AreRooted}
 use Rattle.graph_nodes.proofs.Collecting.{AreRuns-collected}
 use Rattle.global_cache.proofs.Collecting.{AreSoundResults-collected}
@@ -14,18 +14,17 @@ use Rattle.graph_nodes.proofs.NodeLists.{appended, AreRuns-appended, AreRuns-end
 use Rattle.graph_nodes.proofs.NodeLists.{KeepsGoals-ended, Grown-ended}
 use Rattle.global_cache.proofs.Stored.{AreSoundResults-grown, AreSoundResults-stored, IsWorth, result_is_worth}
 
--- a cache without nodes and results
-pub IsSoundCache-empty : {X I R A T : Type 0} (same : I → I → Bool) (says : Verdicts R)
-    (scripts : X → I → List (Reply R) → Request I R) (cx : X) (nodes : List (CacheNode I R))
-    (results : Store I (StoredResult X I R A T))
-    → nodes ≡ [] → results ≡ [] → IsSoundCache same says scripts (record { cx = cx; nodes = nodes; results = results })
-IsSoundCache-empty same says scripts cx [] [] no_node no_result =
+-- where nothing is known, it is sound by any scripts
+pub AreSoundFindings-empty : {I R T : Type 0} (same : I → I → Bool) (says : Verdicts R)
+    (scripts : I → List (Reply R) → Request I R) (nodes : List (CacheNode I R)) (results : Store I (StoredResult I R T))
+    → nodes ≡ [] → results ≡ [] → AreSoundFindings same says scripts (record { nodes = nodes; results = results })
+AreSoundFindings-empty same says scripts [] [] no_node no_result =
     record { runs = λ at n run there. absurd cc; results = λ input place s there. absurd cc }
-IsSoundCache-empty same says scripts cx (n ∷ nodes) results no_node no_result = absurd cc
-IsSoundCache-empty same says scripts cx [] (r ∷ results) no_node no_result = absurd cc
+AreSoundFindings-empty same says scripts (n ∷ nodes) results no_node no_result = absurd cc
+AreSoundFindings-empty same says scripts [] (r ∷ results) no_node no_result = absurd cc
 
-module _ {X I R A T : Type 0} (same : I → I → Bool) (says : Verdicts R) (scripts : X → I → List (Reply R) → Request I R)
-    (cache : Cache X I R A T) (sound : IsSoundCache same says scripts cache) where
+module _ {X I R T : Type 0} (same : I → I → Bool) (says : Verdicts R) (scripts : X → I → List (Reply R) → Request I R)
+    (cache : Cache X I R T) (sound : IsSoundCache same says scripts cache) where
   pub IsSoundCache-appended : (grew : Bool) (goal : I)
       → IsSoundCache same says scripts (record cache { nodes = appended grew cache.nodes goal })
   IsSoundCache-appended grew goal = record {
@@ -47,14 +46,14 @@ module _ {X I R A T : Type 0} (same : I → I → Bool) (says : Verdicts R) (scr
   }
 
 -- a cache whose context, nodes and results are these
-module _ {X I R A T : Type 0} (same : I → I → Bool) (says : Verdicts R) (scripts : X → I → List (Reply R) → Request I R)
-    (cx : X) (nodes : List (CacheNode I R)) (results : Store I (StoredResult X I R A T)) (cache : Cache X I R A T)
+module _ {X I R T : Type 0} (same : I → I → Bool) (says : Verdicts R) (scripts : X → I → List (Reply R) → Request I R)
+    (cx : X) (nodes : List (CacheNode I R)) (results : Store I (StoredResult I R T)) (cache : Cache X I R T)
     (view : record { cx = cx; nodes = nodes; results = results } ≡ cache)
     (sound : IsSoundCache same says scripts (record { cx = cx; nodes = nodes; results = results })) where
   -- a result of the goal is stored, or nothing changes
-  pub IsSoundCache-stored : ((x y : I) → same x y ≡ true → x ≡ y)
-      → {U E : Type 0} (answer : Result U E) (new : Store I (StoredResult X I R A T)) (input : I)
-      (evaluated : EvaluationResult X I R A T) (token : T) (place : Place) (stored : StoredResult X I R A T)
+  pub IsSoundCache-stored : {A : Type 0} → ((x y : I) → same x y ≡ true → x ≡ y)
+      → {U E : Type 0} (answer : Result U E) (new : Store I (StoredResult I R T)) (input : I)
+      (evaluated : EvaluationResult X I R A T) (token : T) (place : Place) (stored : StoredResult I R T)
       → HasGraph says cache.nodes input evaluated.result evaluated.node
       → IsPlainAt (scripts cache.cx) input (place_of evaluated) evaluated.result
       → place ≡ place_of evaluated → stored ≡ stored_from evaluated token
@@ -66,18 +65,18 @@ module _ {X I R A T : Type 0} (same : I → I → Bool) (says : Verdicts R) (scr
       record {
         runs = sound.runs;
         results = AreSoundResults-stored same says (scripts cx) by_value nodes results new input place stored
-            (subst (λ (c : Cache X I R A T). IsSoundResult says (scripts c.cx) c.nodes input place stored) (sym view)
+            (subst (λ (c : Cache X I R T). IsSoundResult says (scripts c.cx) c.nodes input place stored) (sym view)
             (subst₂ (IsSoundResult says (scripts cache.cx) cache.nodes input) (sym at) (sym is) may)) sound.results
             answer ok err;
       }
 
   -- what a look-up in it gives is worth
-  pub found_is_worth : (accepts : NestedPaths I → Bool) (input : I) (available : ℕ)
+  pub found_is_worth : {A : Type 0} (accepts : NestedPaths I → Bool) (input : I) (available : ℕ)
       (found : Option (CacheData X I R A T))
       → option_map hit_of found ≡ first_accepted accepts (usable same results input available)
       → IfSome found (λ hit. IsWorth says (scripts cache.cx) cache.nodes input available (hit_of hit))
   found_is_worth accepts input available found is =
-      subst (λ (c : Cache X I R A T).
+      subst (λ (c : Cache X I R T).
       IfSome found (λ hit. IsWorth says (scripts c.cx) c.nodes input available (hit_of hit))) view
       (result_is_worth says (scripts cx) nodes input available accepts same results found sound.results is)
 
@@ -91,7 +90,7 @@ module _ {X I R A T : Type 0} (same : I → I → Bool) (says : Verdicts R) (scr
   IsSoundCache-collected (Ok u) new first roots rooted ok err = record {
     runs = AreRuns-collected ok.0 nodes new ok.2 says (scripts cx) sound.runs;
     results = AreSoundResults-collected ok.0 nodes new ok.2 says (scripts cx) same first roots results ok.1
-        (subst (λ (c : Cache X I R A T). AreRooted same first roots c.results) (sym view) rooted) sound.results;
+        (subst (λ (c : Cache X I R T). AreRooted same first roots c.results) (sym view) rooted) sound.results;
   }
   IsSoundCache-collected (Err e) new first roots rooted ok err =
       subst (λ (l : List (CacheNode I R)).

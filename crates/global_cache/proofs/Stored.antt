@@ -15,9 +15,9 @@ use Rattle.graph_nodes.proofs.Definites.{HasGraph-kept}
 use Rattle.search_context.proofs.Ranks.{one_plain_value}
 use Rattle.global_cache.proofs.Stores.{put_cases}
 
-module _ {X I R A T : Type 0} (same : I → I → Bool) (says : Verdicts R)
+module _ {I R T : Type 0} (same : I → I → Bool) (says : Verdicts R)
     (scripts : I → List (Reply R) → Request I R) where
-  pub AreSoundResults-grown : (old new : List (CacheNode I R)) (results : Store I (StoredResult X I R A T))
+  pub AreSoundResults-grown : (old new : List (CacheNode I R)) (results : Store I (StoredResult I R T))
       → KeepsGoals old new → Grown (shapes_of says old) (shapes_of says new)
       → AreSoundResults same says scripts old results → AreSoundResults same says scripts new results
   AreSoundResults-grown old new results goals grown kept input place s is =
@@ -25,7 +25,7 @@ module _ {X I R A T : Type 0} (same : I → I → Bool) (says : Verdicts R)
       record { graph = HasGraph-kept says old new goals grown input s.result.result s.node k.graph; plain = k.plain }
 
   module _ (by_value : (x y : I) → same x y ≡ true → x ≡ y) (nodes : List (CacheNode I R))
-      (old new : Store I (StoredResult X I R A T)) (input : I) (place : Place) (stored : StoredResult X I R A T)
+      (old new : Store I (StoredResult I R T)) (input : I) (place : Place) (stored : StoredResult I R T)
       (may : IsSoundResult says scripts nodes input place stored)
       (kept : AreSoundResults same says scripts nodes old) where
     pub AreSoundResults-put : Puts same old new input place stored → AreSoundResults same says scripts nodes new
@@ -68,33 +68,33 @@ lent : {X I R A T : Type 0} (P : Hit I R T → Type 0) (found : Option (CacheDat
 lent P None h = tt
 lent P (Some hit) h = h
 
-module _ {X I R A T : Type 0} (P : Hit I R T → Type 0) (same : I → I → Bool)
-    (results : Store I (StoredResult X I R A T)) (input : I) (available : ℕ) (accepts : NestedPaths I → Bool) where
-  success_case : (s : StoredResult X I R A T) (fits : Bool) → (fits ≡ true → s.required_depth ≤ available)
+module _ {I R T : Type 0} (P : Hit I R T → Type 0) (same : I → I → Bool)
+    (results : Store I (StoredResult I R T)) (input : I) (available : ℕ) (accepts : NestedPaths I → Bool) where
+  success_case : (s : StoredResult I R T) (fits : Bool) → (fits ≡ true → s.required_depth ≤ available)
       → (s.required_depth ≤ available → P (hit_at s.required_depth false s))
       → IfSome (first_accepted accepts (if fits then hit_at s.required_depth false s ∷ [] else [])) P
   success_case s true within holds =
       first_of_one P (accepts s.nested_goals) (hit_at s.required_depth false s) (holds (within refl))
   success_case s false within holds = tt
 
-  success_holds : (o : Option (StoredResult X I R A T))
-      → ((s : StoredResult X I R A T) → o ≡ Some s → s.required_depth ≤ available → P (hit_at s.required_depth false s))
+  success_holds : (o : Option (StoredResult I R T))
+      → ((s : StoredResult I R T) → o ≡ Some s → s.required_depth ≤ available → P (hit_at s.required_depth false s))
       → IfSome (first_accepted accepts (successes available o)) P
   success_holds None holds = tt
   success_holds (Some s) holds =
       success_case s (nat_le s.required_depth available) (leb-true s.required_depth available) (holds s refl)
 
-  overflow_holds : (o : Option (StoredResult X I R A T))
-      → ((s : StoredResult X I R A T) → o ≡ Some s → P (hit_at available true s))
+  overflow_holds : (o : Option (StoredResult I R T))
+      → ((s : StoredResult I R T) → o ≡ Some s → P (hit_at available true s))
       → IfSome (first_accepted accepts (overflows available o)) P
   overflow_holds None holds = tt
   overflow_holds (Some s) holds = first_of_one P (accepts s.nested_goals) (hit_at available true s) (holds s refl)
 
   -- what holds of the success and of the overflow result at the depth holds of the result that a look-up gives
-  pub used_holds : (found : Option (CacheData X I R A T))
-      → ((s : StoredResult X I R A T) → stored_at same results input Success ≡ Some s → s.required_depth ≤ available
+  pub used_holds : {X A : Type 0} (found : Option (CacheData X I R A T))
+      → ((s : StoredResult I R T) → stored_at same results input Success ≡ Some s → s.required_depth ≤ available
       → P (hit_at s.required_depth false s))
-      → ((s : StoredResult X I R A T) → stored_at same results input (WithOverflow available) ≡ Some s
+      → ((s : StoredResult I R T) → stored_at same results input (WithOverflow available) ≡ Some s
       → P (hit_at available true s))
       → option_map hit_of found ≡ first_accepted accepts (usable same results input available)
       → IfSome found (λ hit. P (hit_of hit))
@@ -111,7 +111,7 @@ module _ {X I R A T : Type 0} (P : Hit I R T → Type 0) (same : I → I → Boo
 
 pub result_is_worth : {X I R A T : Type 0} (says : Verdicts R) (scripts : I → List (Reply R) → Request I R)
     (nodes : List (CacheNode I R)) (input : I) (available : ℕ) (accepts : NestedPaths I → Bool) (same : I → I → Bool)
-    (results : Store I (StoredResult X I R A T)) (found : Option (CacheData X I R A T))
+    (results : Store I (StoredResult I R T)) (found : Option (CacheData X I R A T))
     → AreSoundResults same says scripts nodes results
     → option_map hit_of found ≡ first_accepted accepts (usable same results input available)
     → IfSome found (λ hit. IsWorth says scripts nodes input available (hit_of hit))
@@ -124,10 +124,10 @@ result_is_worth says scripts nodes input available accepts same results found ke
 
 -- a plain value is stored, or its equal is there
 pub ranked_never_conflicts :
-    {X I R A T : Type 0} (same : I → I → Bool) (says : Verdicts R) (scripts : I → List (Reply R) → Request I R)
-    (nodes : List (CacheNode I R)) (results : Store I (StoredResult X I R A T)) (equal : R → R → Bool)
+    {I R T : Type 0} (same : I → I → Bool) (says : Verdicts R) (scripts : I → List (Reply R) → Request I R)
+    (nodes : List (CacheNode I R)) (results : Store I (StoredResult I R T)) (equal : R → R → Bool)
     → IsEquivalence equal → AreSoundResults same says scripts nodes results → (n : ℕ) (input : I) (found : R)
-    → IsPlainTo scripts n input → IsPlain scripts input found → (o : Option (StoredResult X I R A T))
+    → IsPlainTo scripts n input → IsPlain scripts input found → (o : Option (StoredResult I R T))
     → stored_at same results input Success ≡ o → (answer : Result (Unit {0}) (Fault I R))
     → AnswersStoring equal input o found answer → IfErr answer (λ fault. fault ≡ Memory)
 ranked_never_conflicts same says scripts nodes results equal laws kept n input found ranked plain None at answer is = is

@@ -1,7 +1,8 @@
 -- A map by goal and place as a store, and that what is stored in it stays.
-use Rattle.std.proofs.Common.{◌≡◌, Bool, true, false, ◌&&◌, if◌then◌else◌, Option, None, Some, Result, Ok, Err, ◌⊎◌}
+use Rattle.std.proofs.Common.{◌≡◌, ℕ, Bool, true, false, ◌&&◌, if◌then◌else◌, Option, None, Some, Result, Ok, Err, ◌⊎◌}
 use Rattle.std.proofs.Common.{inl, inr, refl, sym, ap, ap₂, ◌∙◌, subst}
 use Rattle.std.proofs.Math.Bool.{◌||◌}
+use Rattle.std.specs.Prelude.{OnErr, OnOk}
 use Rattle.std.proofs.lemmas.Bool.{and_parts, cases_Bool, eqb-true, or_parts}
 use Rattle.std.specs.Map.{lookup}
 use Rattle.std.specs.Option.{IsSomeAnd, IfSome}
@@ -56,17 +57,20 @@ put_cases same by_value old new input place stored puts other at =
       | inr e ↦ inr (puts.others other at e)
     ]
 
+off_success : (b : Bool) (place : Place) (depth : ℕ) → is_of_overflow place ≡ false
+    → b && same_place place (WithOverflow depth) ≡ false
+off_success true Success depth is = refl
+off_success false Success depth is = refl
+off_success b (WithOverflow other) depth is = absurd cc
+
 -- a put says that a result that met overflow is stored, where it is one
-pub TellsOverflow-put : {I S : Type 0} (same : I → I → Bool) (by_value : (x y : I) → same x y ≡ true → x ≡ y)
-    (is_said : Bool) (old new : Store I S) (input : I) (place : Place) (stored : S)
-    → Puts same old new input place stored → TellsOverflow same is_said old
+pub TellsOverflow-put : {I S : Type 0} (same : I → I → Bool) (is_said : Bool) (old new : Store I S) (input : I)
+    (place : Place) (stored : S) → Puts same old new input place stored → TellsOverflow same is_said old
     → TellsOverflow same (is_said || is_of_overflow place) new
-TellsOverflow-put same by_value is_said old new input place stored put tells not_said other depth =
+TellsOverflow-put same is_said old new input place stored put tells not_said other depth =
     let unsaid = or_parts is_said (is_of_overflow place) not_said in
-    elim (put_cases same by_value old new input place stored put other (WithOverflow depth)) [
-      | inl w ↦ let yes : true ≡ false = sym (ap is_of_overflow w.1) ∙ unsaid.1 in absurd cc
-      | inr e ↦ e ∙ tells unsaid.0 other depth
-    ]
+    put.others other (WithOverflow depth) (off_success (same input other) place depth unsaid.1)
+    ∙ tells unsaid.0 other depth
 
 agreed : {E : Type 0} (b : Bool) (fault : E) (answer : Result (Unit {0}) E) → answer ≡ Ok tt
     → answer ≡ (if b then Ok tt else Err fault) → b ≡ true
@@ -74,8 +78,8 @@ agreed true fault answer ok h = refl
 agreed false fault answer ok h = absurd cc
 
 -- where no conflict was found, what is stored in the place is equal
-pub no_conflict : {X I R A T : Type 0} (same : R → R → Bool) → ((x y : R) → same x y ≡ true → x ≡ y)
-    → (input : I) (o : Option (StoredResult X I R A T)) (found : R)
+pub no_conflict : {I R T : Type 0} (same : R → R → Bool) → ((x y : R) → same x y ≡ true → x ≡ y)
+    → (input : I) (o : Option (StoredResult I R T)) (found : R)
     → (answer : Result (Unit {0}) (Fault I R)) → answer ≡ Ok tt → AnswersStoring same input o found answer
     → IfSome o (λ s. s.result.result ≡ found)
 no_conflict same by_value input None found answer ok is = tt
@@ -83,29 +87,29 @@ no_conflict same by_value input (Some s) found answer ok is =
     by_value s.result.result found
     (agreed (same s.result.result found) (Conflict input s.result.result found) answer ok is)
 
-module _ {X I R A T : Type 0} (same : I → I → Bool) where
+module _ {I R T : Type 0} (same : I → I → Bool) where
   -- a stored result stays where its place does
-  stays : (old new : Store I (StoredResult X I R A T)) (input : I) (place : Place) (s : StoredResult X I R A T)
+  stays : (old new : Store I (StoredResult I R T)) (input : I) (place : Place) (s : StoredResult I R T)
       → stored_at same new input place ≡ stored_at same old input place → stored_at same old input place ≡ Some s
       → IsSomeAnd (stored_at same new input place) (λ t. t.result.result ≡ s.result.result)
   stays old new input place s unchanged is =
       subst (λ o. IsSomeAnd o (λ t. t.result.result ≡ s.result.result)) (sym (unchanged ∙ is)) refl
 
-  pub KeepsResults-same : (old new : Store I (StoredResult X I R A T)) → new ≡ old → KeepsResults same old new
+  pub KeepsResults-same : (old new : Store I (StoredResult I R T)) → new ≡ old → KeepsResults same old new
   KeepsResults-same old new unchanged input place s is =
       stays old new input place s (ap (λ store. stored_at same store input place) unchanged) is
 
-  then_kept : (later : Store I (StoredResult X I R A T)) (input : I) (place : Place) (r : R)
-      (o : Option (StoredResult X I R A T))
+  then_kept : (later : Store I (StoredResult I R T)) (input : I) (place : Place) (r : R)
+      (o : Option (StoredResult I R T))
       → IsSomeAnd o (λ t. t.result.result ≡ r)
-      → ((t : StoredResult X I R A T) → o ≡ Some t
+      → ((t : StoredResult I R T) → o ≡ Some t
       → IsSomeAnd (stored_at same later input place) (λ u. u.result.result ≡ t.result.result))
       → IsSomeAnd (stored_at same later input place) (λ u. u.result.result ≡ r)
   then_kept later input place r None first second = absurd first
   then_kept later input place r (Some t) first second =
       subst (λ x. IsSomeAnd (stored_at same later input place) (λ u. u.result.result ≡ x)) first (second t refl)
 
-  pub KeepsResults-then : (old new later : Store I (StoredResult X I R A T)) → KeepsResults same old new
+  pub KeepsResults-then : (old new later : Store I (StoredResult I R T)) → KeepsResults same old new
       → KeepsResults same new later → KeepsResults same old later
   KeepsResults-then old new later first second input place s is =
       then_kept later input place s.result.result (stored_at same new input place)
@@ -113,7 +117,7 @@ module _ {X I R A T : Type 0} (same : I → I → Bool) where
 
   -- a result is put where nothing is stored, or an equal one
   pub KeepsResults-put : ((x y : I) → same x y ≡ true → x ≡ y)
-      → (old new : Store I (StoredResult X I R A T)) (input : I) (place : Place) (stored : StoredResult X I R A T)
+      → (old new : Store I (StoredResult I R T)) (input : I) (place : Place) (stored : StoredResult I R T)
       → Puts same old new input place stored
       → IfSome (stored_at same old input place) (λ s. s.result.result ≡ stored.result.result)
       → KeepsResults same old new
@@ -128,3 +132,16 @@ module _ {X I R A T : Type 0} (same : I → I → Bool) where
             subst (λ o. IsSomeAnd o (λ t. t.result.result ≡ s.result.result)) (sym here) (sym e)
         | inr unchanged ↦ stays old new other at s unchanged is
       ]
+
+  -- what is stored stays, whatever storing is answered with
+  pub KeepsResults-answered : ((x y : I) → same x y ≡ true → x ≡ y) → (equal : R → R → Bool)
+      → ((x y : R) → equal x y ≡ true → x ≡ y) → (answer : Result (Unit {0}) (Fault I R))
+      → (old new : Store I (StoredResult I R T)) (input : I) (place : Place) (stored : StoredResult I R T)
+      → OnOk answer (Puts same old new input place stored) → OnErr answer (new ≡ old)
+      → AnswersStoring equal input (stored_at same old input place) stored.result.result answer
+      → KeepsResults same old new
+  KeepsResults-answered by_value equal equal_by_value (Ok u) old new input place stored puts unchanged answers =
+      KeepsResults-put by_value old new input place stored puts
+      (no_conflict equal equal_by_value input (stored_at same old input place) stored.result.result (Ok u) refl answers)
+  KeepsResults-answered by_value equal equal_by_value (Err e) old new input place stored puts unchanged answers =
+      KeepsResults-same old new unchanged

@@ -6,7 +6,7 @@ use Rattle.global_cache.specs.declared.results.StoredResult.{StoredResult}
 use Rattle.global_cache.specs.Store.{Store}
 
 -- the context, the nodes by their numbers, and the stored results
-pub record Cache (X I R A T : Type 0) : Type 0 where
+pub record Cache (X I R T : Type 0) : Type 0 where
   pub cx : X
   pub nodes : List (CacheNode I R)
-  pub results : Store I (StoredResult X I R A T)
+  pub results : Store I (StoredResult I R T)

@@ -7,9 +7,9 @@ use Rattle.search_stack.specs.Hit.{Hit}
 use Rattle.goal_paths.specs.Nested.{NestedPaths}
 use Rattle.global_cache.specs.Store.{Store, stored_at}
 
-module _ {X I R A T : Type 0} where
+module _ {I R T : Type 0} where
   -- a stored result that is used at this required depth
-  abbrev pub hit_at : ℕ → Bool → StoredResult X I R A T → Hit I R T
+  abbrev pub hit_at : ℕ → Bool → StoredResult I R T → Hit I R T
   hit_at depth overflow s = record {
     result = s.result.result;
     token = s.result.token;
@@ -20,18 +20,18 @@ module _ {X I R A T : Type 0} where
   }
 
   -- a success may be used where the available depth is at least what it requires
-  abbrev pub successes : ℕ → Option (StoredResult X I R A T) → List (Hit I R T)
+  abbrev pub successes : ℕ → Option (StoredResult I R T) → List (Hit I R T)
   successes available None = []
   successes available (Some s) =
       if nat_le s.required_depth available then hit_at s.required_depth false s ∷ [] else []
 
   -- an overflow result may be used where the available depth is its key
-  abbrev pub overflows : ℕ → Option (StoredResult X I R A T) → List (Hit I R T)
+  abbrev pub overflows : ℕ → Option (StoredResult I R T) → List (Hit I R T)
   overflows available None = []
   overflows available (Some s) = hit_at available true s ∷ []
 
   -- the results of a goal that may be used at an available depth, the success first
-  abbrev pub usable : (I → I → Bool) → Store I (StoredResult X I R A T) → I → ℕ → List (Hit I R T)
+  abbrev pub usable : (I → I → Bool) → Store I (StoredResult I R T) → I → ℕ → List (Hit I R T)
   usable same store input available =
       successes available (stored_at same store input Success)
       ++ overflows available (stored_at same store input (WithOverflow available))

@@ -3,6 +3,7 @@ pub mod Hits
 pub mod Cache
 pub mod Rooted
 pub mod Stored
+pub mod Findings
 pub mod Sound
 pub mod Changed
 pub mod Below

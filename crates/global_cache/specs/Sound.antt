@@ -2,13 +2,15 @@
 use Rattle.std.specs.Prelude.{Bool, List}
 use Rattle.search_context.specs.declared.context.Request.{Request}
 use Rattle.search_context.specs.declared.context.Reply.{Reply}
-use Rattle.graph_nodes.specs.Nodes.{AreRuns}
 use Rattle.global_cache.specs.Cache.{Cache}
-use Rattle.global_cache.specs.Stored.{AreSoundResults}
+use Rattle.global_cache.specs.Findings.{AreSoundFindings, Findings}
 use Rattle.search_context.specs.Verdicts.{Verdicts}
 
--- each node that is finished is a run of its goal, and each stored result has its graph and is plain
-pub record IsSoundCache {X I R A T : Type 0} (same : I → I → Bool) (says : Verdicts R)
-    (scripts : X → I → List (Reply R) → Request I R) (c : Cache X I R A T) : Type 0 where
-  pub runs : AreRuns says (scripts c.cx) c.nodes
-  pub results : AreSoundResults same says (scripts c.cx) c.nodes c.results
+-- what a cache has found out
+abbrev pub found_by : {X I R T : Type 0} → Cache X I R T → Findings I R T
+found_by c = record { nodes = c.nodes; results = c.results }
+
+-- it is sound by the scripts of the cache's context
+abbrev pub IsSoundCache : {X I R T : Type 0} → (I → I → Bool) → Verdicts R
+    → (X → I → List (Reply R) → Request I R) → Cache X I R T → Type 0
+IsSoundCache same says scripts c = AreSoundFindings same says (scripts c.cx) (found_by c)

@@ -52,10 +52,10 @@ pub record Puts {I S : Type 0} (same : I → I → Bool) (old new : Store I S) (
       → stored_at same new other at ≡ stored_at same old other at
 
 -- each stored result is still in its place, or an equal one is
-abbrev pub KeepsResults : {X I R A T : Type 0} → (I → I → Bool) → Store I (StoredResult X I R A T)
-    → Store I (StoredResult X I R A T) → Type 0
-KeepsResults {X} {I} {R} {A} {T} same old new =
-    (input : I) (place : Place) (s : StoredResult X I R A T)
+abbrev pub KeepsResults : {I R T : Type 0} → (I → I → Bool) → Store I (StoredResult I R T)
+    → Store I (StoredResult I R T) → Type 0
+KeepsResults {I} {R} {T} same old new =
+    (input : I) (place : Place) (s : StoredResult I R T)
     → stored_at same old input place ≡ Some s
     → IsSomeAnd (stored_at same new input place) (λ t. t.result.result ≡ s.result.result)
 
@@ -64,7 +64,7 @@ abbrev pub place_of : {X I R A T : Type 0} → EvaluationResult X I R A T → Pl
 place_of evaluated = if evaluated.encountered_overflow then WithOverflow evaluated.required_depth else Success
 
 -- what is stored of a result
-abbrev pub stored_from : {X I R A T : Type 0} → EvaluationResult X I R A T → T → StoredResult X I R A T
+abbrev pub stored_from : {X I R A T : Type 0} → EvaluationResult X I R A T → T → StoredResult I R T
 stored_from evaluated token = record {
   required_depth = evaluated.required_depth;
   nested_goals = evaluated.nested_goals;
@@ -74,7 +74,7 @@ stored_from evaluated token = record {
 
 -- The answer of storing a result of a goal, by what is stored in its place: where that is an equal result, `Ok`; where
 -- it is another one, the conflict of the two; where nothing is, `Ok` or that memory is out.
-abbrev pub AnswersStoring : {X I R A T : Type 0} → (R → R → Bool) → I → Option (StoredResult X I R A T) → R
+abbrev pub AnswersStoring : {I R T : Type 0} → (R → R → Bool) → I → Option (StoredResult I R T) → R
     → Result (Unit {0}) (Fault I R) → Type 0
 AnswersStoring same input (Some s) found answer =
     answer ≡ (if same s.result.result found then Ok tt else Err (Conflict input s.result.result found))

@@ -17,14 +17,14 @@ IsPlainAt scripts input Success r = IsPlain scripts input r
 IsPlainAt scripts input (WithOverflow depth) r = IsBelowRank scripts input depth
 
 -- a result of the goal may be stored at the place
-pub record IsSoundResult {X I R A T : Type 0} (says : Verdicts R) (scripts : I → List (Reply R) → Request I R)
-    (nodes : List (CacheNode I R)) (input : I) (place : Place) (stored : StoredResult X I R A T) : Type 0 where
+pub record IsSoundResult {I R T : Type 0} (says : Verdicts R) (scripts : I → List (Reply R) → Request I R)
+    (nodes : List (CacheNode I R)) (input : I) (place : Place) (stored : StoredResult I R T) : Type 0 where
   pub graph : HasGraph says nodes input stored.result.result stored.node
   pub plain : IsPlainAt scripts input place stored.result.result
 
 -- each stored result is one that may be stored at its place
-abbrev pub AreSoundResults : {X I R A T : Type 0} → (I → I → Bool) → Verdicts R → (I → List (Reply R) → Request I R)
-    → List (CacheNode I R) → Store I (StoredResult X I R A T) → Type 0
-AreSoundResults {X} {I} {R} {A} {T} same says scripts nodes results =
-    (input : I) (place : Place) (s : StoredResult X I R A T)
+abbrev pub AreSoundResults : {I R T : Type 0} → (I → I → Bool) → Verdicts R → (I → List (Reply R) → Request I R)
+    → List (CacheNode I R) → Store I (StoredResult I R T) → Type 0
+AreSoundResults {I} {R} {T} same says scripts nodes results =
+    (input : I) (place : Place) (s : StoredResult I R T)
     → stored_at same results input place ≡ Some s → IsSoundResult says scripts nodes input place s

@@ -23,7 +23,7 @@ pub trait NestedTest<X: Cx> {
     ghost accepts: { Self → NestedPaths X.Input → Bool };
 
     /// Whether a result with these goals below it may be used.
-    fn accepts(&self, nested_goals: &NestedGoals<X>) -> bool
+    fn accepts(&self, nested_goals: &NestedGoals<X::Input>) -> bool
         ensures { result ≡ accepts self.now nested_goals.now };
 }
 
@@ -58,7 +58,7 @@ impl<D: Delegate> GlobalCache<D> {
 
 // The stored result of the goal that may be used at the available depth.
 fn usable_result<'a, X: Cx, T: NestedTest<X>>(
-    results: &'a ResultStore<X>,
+    results: &'a ResultStore<X::Input, X::Result, X::DepNodeIndex>,
     input: X::Input,
     available: AvailableDepth,
     test: &T,
@@ -74,12 +74,12 @@ fn usable_result<'a, X: Cx, T: NestedTest<X>>(
     let Some(overflow) = results.overflow_at(input, available.0) else {
         return None;
     };
-    overflow.used_at(available.0, true, test)
+    used_at(overflow, available.0, true, test)
 }
 
 // The success, where it may be used at the available depth.
 fn use_success<'a, X: Cx, T: NestedTest<X>>(
-    success: Option<&'a StoredResult<X>>,
+    success: Option<&'a StoredResult<X::Input, X::Result, X::DepNodeIndex>>,
     available: AvailableDepth,
     test: &T,
 ) -> Option<CacheData<'a, X>>
@@ -93,31 +93,29 @@ fn use_success<'a, X: Cx, T: NestedTest<X>>(
     if !available.cache_entry_is_applicable(stored.required_depth) {
         return None;
     }
-    stored.used_at(stored.required_depth, false, test)
+    used_at(stored, stored.required_depth, false, test)
 }
 
-impl<X: Cx> StoredResult<X> {
-    // The result as it is used at this required depth, where the test accepts the goals below it.
-    fn used_at<T: NestedTest<X>>(
-        &self,
-        required_depth: usize,
-        encountered_overflow: bool,
-        test: &T,
-    ) -> Option<CacheData<'_, X>>
-        ensures { option_map hit_of result
-            ≡ first_accepted (T.accepts test.now)
-            (hit_at required_depth encountered_overflow self.now ∷ []) }
-    {
-        if !test.accepts(&self.nested_goals) {
-            return None;
-        }
-        Some(CacheData {
-            result: self.result.result,
-            token: self.result.token,
-            required_depth,
-            encountered_overflow,
-            nested_goals: &self.nested_goals,
-            node: self.node,
-        })
+// The result as it is used at this required depth, where the test accepts the goals below it.
+fn used_at<'a, X: Cx, T: NestedTest<X>>(
+    stored: &'a StoredResult<X::Input, X::Result, X::DepNodeIndex>,
+    required_depth: usize,
+    encountered_overflow: bool,
+    test: &T,
+) -> Option<CacheData<'a, X>>
+    ensures { option_map hit_of result
+        ≡ first_accepted (T.accepts test.now)
+        (hit_at required_depth encountered_overflow stored.now ∷ []) }
+{
+    if !test.accepts(&stored.nested_goals) {
+        return None;
     }
+    Some(CacheData {
+        result: stored.result.result,
+        token: stored.result.token,
+        required_depth,
+        encountered_overflow,
+        nested_goals: &stored.nested_goals,
+        node: stored.node,
+    })
 }

@@ -5,6 +5,7 @@
 //! |---|---|
 //! | `Cache`, `Sound` | what a cache holds, and what holds of every cache |
 //! | `Store`, `Hits` | the results that a cache stores, and which of them a look-up gives |
+//! | `Findings` | what a cache has found out, without its context |
 //! | `Changed` | what stays of scripts, results and nodes where rules change |
 //! | `Stored`, `Rooted` | what each stored result is worth, and that its node is a root when nodes are let go |
 #![tactic(auto)]
@@ -20,12 +21,14 @@ use std::marker::Model;
 mod bytes;
 mod change;
 mod collect;
+pub mod findings;
 pub mod get;
 mod graph;
 mod nodes;
 mod result_store;
 pub mod results;
 
+pub use findings::Findings;
 pub use get::NestedTest;
 use graph_nodes::node_list::NodeList;
 use result_store::ResultStore;
@@ -41,7 +44,7 @@ pub use search_stack::result::CacheData;
 pub struct GlobalCache<D: Delegate> {
     cx: D::Cx,
     nodes: NodeList<<D::Cx as Cx>::Input, <D::Cx as Cx>::Result>,
-    results: ResultStore<D::Cx>,
+    results: ResultStore<<D::Cx as Cx>::Input, <D::Cx as Cx>::Result, <D::Cx as Cx>::DepNodeIndex>,
 }
 
 impl<D: Delegate> Model for GlobalCache<D> {
@@ -49,7 +52,7 @@ impl<D: Delegate> Model for GlobalCache<D> {
     ghost use Rattle.global_cache.specs.Sound.{IsSoundCache};
     ghost use Rattle.search_context.specs.Verdicts.{verdicts};
 
-    ghost Value = { Cache D.Cx D.Cx.Input D.Cx.Result D.Cx.AmbiguityInfo D.Cx.DepNodeIndex };
+    ghost Value = { Cache D.Cx D.Cx.Input D.Cx.Result D.Cx.DepNodeIndex };
 
     ghost view = { λ c. record { cx = c.cx; nodes = c.nodes; results = c.results } };
 

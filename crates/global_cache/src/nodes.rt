@@ -1,5 +1,5 @@
 //! The nodes: the runs of goals that have ended, which the graphs of answers are made of.
-ghost use Rattle.std.specs.Prelude.{◌≡◌, ◌∷◌, ◌++◌, [], count_by, length, IfOk, OnErr, IfSome, IsSome};
+ghost use Rattle.std.specs.Prelude.{◌≡◌, ◌∷◌, ◌++◌, ◌≤◌, [], count_by, length, IfOk, OnErr, IfSome, IsSome};
 ghost use Rattle.std.specs.Option.{is_some, option_map};
 ghost use Rattle.global_cache.specs.Below.{verdicts, open_node as new_node, open_goal, finished_node, with_run, IsRun, KeepsNodes, KeepsFinished, KeepsGoals, HasGrown, ended_run, run_of, ended_node, is_held};
 
@@ -70,11 +70,19 @@ impl<D: Delegate> GlobalCache<D> {
         self.nodes.next_number()
     }
 
-    /// How many nodes are held: those that were opened, whether their runs have ended or not, and were
-    /// not let go.
+    /// How many nodes are held: those that were opened, whether their runs have ended or not, and were not let go. After a
+    /// change of the rules the time may be linear in these.
     pub fn held_nodes(&self) -> usize
         ensures { result ≡ count_by is_held self.now.nodes }
     {
         self.nodes.held_count()
+    }
+
+    /// Of how many nodes there is memory: of those that are held, and of some that were let go since their goals are gone. A
+    /// change of the rules gives their memory back later, at once with that of others.
+    pub fn nodes_in_memory(&self) -> usize
+        ensures { count_by is_held self.now.nodes ≤ result }
+    {
+        self.nodes.count_in_memory()
     }
 }

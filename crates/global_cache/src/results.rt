@@ -59,31 +59,32 @@ impl Place {
 
 /// A result of a goal as it is stored. Ports `Success` and `WithOverflow`.
 #[derive(Drop)]
-pub struct StoredResult<X: Cx> {
+pub struct StoredResult<I: Eq + Hash + Copy, R: Copy, T: Copy> {
     /// How many goals have to be nested below the goal.
     pub required_depth: usize,
     /// The goals that were asked below the goal.
-    pub nested_goals: NestedGoals<X>,
+    pub nested_goals: NestedGoals<I>,
     /// The result and its token.
-    pub result: Tracked<X>,
+    pub result: Tracked<R, T>,
     /// The node of a definite result.
     pub node: Option<NodeId>,
 }
 
-impl<X: Cx> StoredResult<X> {
-    // What is stored of a result.
-    fn new(evaluation_result: EvaluationResult<X>, token: X::DepNodeIndex) -> StoredResult<X>
-        ensures { result ≡ stored_from evaluation_result token }
-    {
-        StoredResult {
-            required_depth: evaluation_result.required_depth,
-            nested_goals: evaluation_result.nested_goals,
-            result: Tracked {
-                result: evaluation_result.result,
-                token,
-            },
-            node: evaluation_result.node,
-        }
+// What is stored of a result.
+fn stored_of<X: Cx>(
+    evaluation_result: EvaluationResult<X>,
+    token: X::DepNodeIndex,
+) -> StoredResult<X::Input, X::Result, X::DepNodeIndex>
+    ensures { result ≡ stored_from evaluation_result token }
+{
+    StoredResult {
+        required_depth: evaluation_result.required_depth,
+        nested_goals: evaluation_result.nested_goals,
+        result: Tracked {
+            result: evaluation_result.result,
+            token,
+        },
+        node: evaluation_result.node,
     }
 }
 
@@ -123,7 +124,7 @@ impl<D: Delegate> GlobalCache<D> {
             → IfErr result (λ fault. fault ≡ Memory) }
     {
         let place = Place::of(&evaluation_result);
-        let found = StoredResult::new(evaluation_result, token);
+        let found = stored_of(evaluation_result, token);
         self.results.put(input, place, found)
     }
 

@@ -379,10 +379,10 @@ module _ {I R : Type 0} (first_goal : Option I) (held : List (Held I R)) (next :
           let w = mapped_some (λ h. h.number) (slice_get held place) number has in slice_get_within held place w.0 w.1
 
       module _ (h : Held I R) (read : h ≡ get_or held place h) where
-        is_there : slice_get held place ≡ Some h
+        pub is_there : slice_get held place ≡ Some h
         is_there = slice_get_read held (length held) place h refl has_place read
 
-        number_is : h.number ≡ number
+        pub number_is : h.number ≡ number
         number_is = let w = mapped_some (λ x. x.number) (slice_get held place) number has in
             let both : Some w.0 ≡ Some h = sym w.1 ∙ is_there in let one : w.0 ≡ h = cc in
             sym (ap (λ x. x.number) one) ∙ w.2
@@ -405,7 +405,7 @@ module _ {I R : Type 0} (first_goal : Option I) (held : List (Held I R)) (next :
               (subst (λ l. IsSome (open_goal l number)) (sym view) is_open)
               ∙ ap (λ l. with_run l number (run_of n)) view
 
-  found_case : (number : ℕ) (items : List (Held I R)) (found : Option ℕ)
+  pub found_case : (number : ℕ) (items : List (Held I R)) (found : Option ℕ)
       → MatchOption found (slot_at items number ≡ None) (λ place. HasNumber items place number)
       → (slot_at items number ≡ None → ⊥) → IsSome found
   found_case number items None is some = absurd (some is)

@@ -382,7 +382,7 @@ module _ {I R : Type 0} (first_goal : Option I) (front later : List (Held I R)) 
 -- ---- the same of a list that is split at a place
 
 module _ {I R : Type 0} (held : List (Held I R)) (first place : ℕ) (split : IsSplit held first place) where
-  whole : take place held ++ drop place held ≡ held
+  pub whole : take place held ++ drop place held ≡ held
   whole = take-append-drop place held
 
   pub later_rises : IsRising held → IsRising (drop place held)
@@ -391,19 +391,19 @@ module _ {I R : Type 0} (held : List (Held I R)) (first place : ℕ) (split : Is
   front_long : place ≡ length (take place held)
   front_long = sym (length-take-le place held split.within)
 
-  front_is : (i : ℕ) (h : Held I R) → slice_get (take place held) i ≡ Some h → slice_get held i ≡ Some h
+  pub front_is : (i : ℕ) (h : Held I R) → slice_get (take place held) i ≡ Some h → slice_get held i ≡ Some h
   front_is i h is = ap (λ l. slice_get l i) (sym whole) ∙ get_left (take place held) (drop place held) i h is
 
-  later_is : (i : ℕ) (h : Held I R) → slice_get (drop place held) i ≡ Some h
+  pub later_is : (i : ℕ) (h : Held I R) → slice_get (drop place held) i ≡ Some h
       → slice_get held (length (take place held) + i) ≡ Some h
   later_is i h is = ap (λ l. slice_get l (length (take place held) + i)) (sym whole)
       ∙ (get_right (take place held) (drop place held) i ∙ is)
 
-  before_first : (i : ℕ) (h : Held I R) → slice_get (take place held) i ≡ Some h → h.number < first
+  pub before_first : (i : ℕ) (h : Held I R) → slice_get (take place held) i ≡ Some h → h.number < first
   before_first i h is =
       split.before i h (front_is i h is) (omega (arith, slice_get_within (take place held) i h is, front_long))
 
-  behind_first : (i : ℕ) (h : Held I R) → slice_get (drop place held) i ≡ Some h → first ≤ h.number
+  pub behind_first : (i : ℕ) (h : Held I R) → slice_get (drop place held) i ≡ Some h → first ≤ h.number
   behind_first i h is = split.behind (length (take place held) + i) h (later_is i h is) (omega (arith, front_long))
 
   module _ (first_goal : Option I) (next_number : ℕ) (nodes : List (CacheNode I R))

@@ -15,5 +15,8 @@ pub mod NearNodes
 pub mod MarkedNodes
 pub mod KeptNodes
 pub mod LetGo
+pub mod Filters
+pub mod ShownNodes
+pub mod ShownCollected
 pub mod Forgotten
 pub mod Forgetting

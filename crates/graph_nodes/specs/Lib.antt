@@ -5,6 +5,7 @@ pub mod Collected
 pub mod Forgotten
 pub mod View
 pub mod Held
+pub mod Shown
 pub mod Marked
 pub mod Shapes
 pub mod Definite

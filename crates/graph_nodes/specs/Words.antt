@@ -12,6 +12,7 @@ pub use Rattle.graph_nodes.specs.Held.{nodes_below, nodes_of, slot_at}
 pub use Rattle.graph_nodes.specs.Marked.{AreMarked, AreNone, AreWaiting, edges_of, IsClosed, IsFound, IsMarked, kept}
 pub use Rattle.graph_nodes.specs.Marked.{Marks, MarksFrom, targets_of, unmarked}
 pub use Rattle.graph_nodes.specs.Marked.IsFound.{root, next}
+pub use Rattle.graph_nodes.specs.Shown.{AreEarlier, Forgets, ForgetsSome, is_before, is_forgotten, IsShownFrom, shown}
 pub use Rattle.graph_nodes.specs.Shapes.{edge_shape, HasGrown, run_shape, shape_of, shapes_of}
 pub use Rattle.graph_nodes.specs.View.{ended_node, node_of, run_of}
 pub use Rattle.graph_nodes.specs.declared.node_list.Held.{Held}

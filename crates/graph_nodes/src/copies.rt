@@ -7,11 +7,12 @@ use crate::found::Found;
 use crate::node_list::NodeList;
 use search_context::context::{NoMemory, Node, NodeId};
 use std::alloc::Global;
+use std::hash::Hash;
 
 /// What is reached from a node of the list, if all of that is finished: the node itself first and the others in any
 /// order, each once. Their edges lead to places of what is handed out. The time is linear in what is copied, but for
 /// look-ups in a map.
-pub fn copied_nodes<I: Copy, R: Copy>(
+pub fn copied_nodes<I: Copy + Eq + Hash, R: Copy>(
     nodes: &NodeList<I, R>,
     root: NodeId,
 ) -> Result<Option<Vec<Node<I, R>>>, NoMemory>

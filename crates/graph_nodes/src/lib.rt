@@ -7,12 +7,13 @@
 //! | `Nodes` | what a node stands for, and what stays as a list of them grows |
 //! | `View`, `Held` | how the nodes that are held are seen as the list of all nodes |
 //! | `Collected`, `Marked` | what is left when nodes are let go, and how it is found out which these are |
-//! | `Forgotten` | what is left when the nodes of some goals are let go |
+//! | `Forgotten`, `Shown` | what is left when the nodes of some goals are let go, and what is seen of those whose memory is not yet |
 //! | `HandedOut`, `Found` | which nodes have a graph to hand out, what that is a copy of, and how its nodes are found |
 //! | `Shapes`, `Definite` | the nodes as the theory of open graphs sees them, and the graph of a definite result |
 #![tactic(auto)]
 
 pub mod copies;
+mod forgotten_goals;
 mod found;
 mod held;
 mod hints;

@@ -1,18 +1,25 @@
 //! The list of numbered nodes, of which only those are held that were not let go.
-ghost use Rattle.std.specs.Prelude.{◌≡◌, ◌∷◌, ◌++◌, ◌*◌, ◌<◌, ℕ, Bool, [], length, count_by, slice_get, Some, IfOk, IsSome, MatchOption, OnOk, OnErr};
+ghost use Rattle.std.specs.Prelude.{◌≡◌, ◌∷◌, ◌++◌, ◌*◌, ◌<◌, ◌≤◌, ℕ, Bool, [], length, count_by, slice_get, Some, IfOk, IsSome, MatchOption, OnOk, OnErr};
 ghost use Rattle.std.specs.Option.{is_some, option_map};
 ghost use Rattle.graph_nodes.specs.Words.{open_node as new_node, open_goal, finished_node, with_run, ended_node, ended_run, node_of, is_held, with_root, AreLive, Collected, IsGone, KeepsOtherNodes, StayBefore, is_among};
 ghost use Rattle.heap_room.specs.Bytes.{CoversBytes};
 
+use crate::forgotten_goals::{is_forgotten, let_go_from, note_forgotten, shown_count};
 use crate::held::{place_from, place_of};
 use crate::marking::{keep_from, marked_from};
 use crate::room::is_far_more;
-use heap_room::list_bytes;
+use heap_room::{list_bytes, map_bytes};
 use search_context::context::{Edge, NoMemory, Node, NodeId, Reply};
 use std::alloc::Global;
-use std::collections::HashSet;
+use std::collections::{HashMap, HashSet};
 use std::hash::Hash;
 use std::marker::Model;
+
+/// Of so few nodes what is forgotten is let go at once.
+const FEW: usize = 256;
+
+/// What is forgotten is let go once one in so many of the nodes that are held may be.
+const PART: usize = 16;
 
 /// A node that is held.
 #[derive(Drop)]
@@ -25,7 +32,7 @@ pub(super) enum Slot<I, R> {
 
 impl<I: Copy, R: Drop> Slot<I, R> {
     /// The node's goal.
-    fn input(&self) -> I
+    pub(super) fn input(&self) -> I
         ensures { result ≡ (node_of self.now).goal }
     {
         match self {
@@ -60,26 +67,37 @@ pub(super) struct Held<I, R> {
 /// alone that were not let go. In clauses it is the list of all numbers, where one whose node was let go
 /// is a node that is gone. Since a node of a clause has a goal, each of these is shown with one and the
 /// same, the first that ever was opened: so what is gone never changes.
+///
+/// The nodes of a goal that is forgotten are gone at once, but their memory is let go later, that of many at a time: so to
+/// forget takes no time for what stays.
 #[derive(Drop)]
-pub struct NodeList<I, R> {
+pub struct NodeList<I: Eq + Hash, R> {
     held: Vec<Held<I, R>>,
     next: usize,
     first_goal: Option<I>,
+    /// Of each goal that was forgotten since memory was let go, the number that was next then.
+    forgotten: HashMap<I, usize>,
+    /// The number that was next when a goal was forgotten last. No node from it on is gone that is still held.
+    first_kept: usize,
+    /// The number that was next when the first of these was forgotten.
+    noted_from: usize,
 }
 
-impl<I, R> Model for NodeList<I, R> {
-    ghost use Rattle.std.specs.Prelude.{List};
+impl<I: Eq + Hash, R> Model for NodeList<I, R> {
+    ghost use Rattle.std.specs.Prelude.{◌≤◌, List};
     ghost use Rattle.graph_nodes.specs.Nodes.{CacheNode};
     ghost use Rattle.graph_nodes.specs.Held.{AreHeld, nodes_of};
+    ghost use Rattle.graph_nodes.specs.Shown.{AreEarlier, shown};
 
     ghost Value = { List (CacheNode I R) };
 
-    ghost view = { λ l. nodes_of l.first_goal l.held.items l.next };
+    ghost view = { λ l. nodes_of l.first_goal (shown I.eq l.forgotten.entries l.held.items) l.next };
 
-    ghost invariant = { λ l. AreHeld l.first_goal l.held.items l.next };
+    ghost invariant = { λ l. AreHeld l.first_goal l.held.items l.next
+        × AreEarlier I.eq l.forgotten.entries l.first_kept × l.first_kept ≤ l.next };
 }
 
-impl<I: Copy, R: Drop> NodeList<I, R> {
+impl<I: Copy + Eq + Hash, R: Drop> NodeList<I, R> {
     ghost use Rattle.graph_nodes.specs.Bytes.{node_bytes};
 
     /// No nodes. It takes no memory yet.
@@ -90,6 +108,9 @@ impl<I: Copy, R: Drop> NodeList<I, R> {
             held: Vec::new(alloc),
             next: 0,
             first_goal: None,
+            forgotten: HashMap::new(alloc),
+            first_kept: 0,
+            noted_from: 0,
         }
     }
 
@@ -105,19 +126,31 @@ impl<I: Copy, R: Drop> NodeList<I, R> {
         self.next
     }
 
-    /// How many nodes are held.
+    /// How many nodes are held. Where there is still memory of goals that were forgotten, the time is linear in the nodes.
     pub fn held_count(&self) -> usize
         ensures { result ≡ count_by is_held self.now }
+    {
+        if self.forgotten.is_empty() {
+            return self.held.len();
+        }
+        shown_count(&self.held, &self.forgotten)
+    }
+
+    /// Of how many nodes there is memory: of those that are held, and of some that were forgotten.
+    pub fn count_in_memory(&self) -> usize
+        ensures { count_by is_held self.now ≤ result }
     {
         self.held.len()
     }
 
-    /// How many bytes of the heap the list holds: its room, and the replies and the edges of the nodes. The time is linear
-    /// in the nodes that are held.
+    /// How many bytes of the heap the list holds: its room, and the replies and the edges of the nodes, also of those that were
+    /// forgotten and not let go yet. The time is linear in all these.
     pub fn held_bytes(&self) -> usize
         ensures { CoversBytes (count_by is_held self.now * node_bytes I.row R.row) result }
     {
-        list_bytes(&self.held).saturating_add(run_bytes(self.held.as_slice()))
+        list_bytes(&self.held)
+            .saturating_add(run_bytes(self.held.as_slice()))
+            .saturating_add(map_bytes(&self.forgotten))
     }
 
     /// Appends an open node of the goal and answers its number.
@@ -150,6 +183,9 @@ impl<I: Copy, R: Drop> NodeList<I, R> {
         self.held.clear();
         self.next = 0;
         self.first_goal = None;
+        self.forgotten = HashMap::new(*self.held.allocator());
+        self.first_kept = 0;
+        self.noted_from = 0;
     }
 
     // The node, if it is held.
@@ -160,7 +196,11 @@ impl<I: Copy, R: Drop> NodeList<I, R> {
         let Some(place) = place_of(&self.held, number) else {
             return None;
         };
-        Some(&self.held[place].slot)
+        let entry = &self.held[place];
+        if number < self.first_kept && is_forgotten(entry, &self.forgotten) {
+            return None;
+        }
+        Some(&entry.slot)
     }
 
     /// Whether the node is held and its run has not ended.
@@ -214,6 +254,7 @@ impl<I: Copy, R: Drop> NodeList<I, R> {
         ensures as_many { length self.new ≡ length self.old }
         ensures refused { OnErr result (self.new ≡ self.old) }
     {
+        let_go_from(&mut self.held, &mut self.forgotten, self.first_kept, first);
         let alloc = *self.held.allocator();
         let split = place_from(&self.held, first);
         let marked = marked_from(alloc, &self.held[split..], roots, last)?;
@@ -223,12 +264,58 @@ impl<I: Copy, R: Drop> NodeList<I, R> {
 }
 
 impl<I: Copy + Eq + Hash, R: Drop> NodeList<I, R> {
-    /// Lets go of each node whose goal is gone, whether its run has ended or not. It takes no memory, and the list keeps
-    /// its own for the nodes that come.
+    /// Lets go of each node whose goal is gone, whether its run has ended or not. It needs no memory, and the list keeps its own
+    /// for the nodes that come.
+    ///
+    /// Most of the time it is only noted which goals are gone, and what is held for their nodes is let go later, at once with what
+    /// comes to be gone until then. Where there is no memory for the notes it is let go now. So over many calls the time is
+    /// linear in the goals that are gone and the nodes that are pushed between the calls, and where each goal has one node, no
+    /// more than a sixteenth of those in memory are gone.
     pub fn forget(&mut self, gone: &HashSet<I>)
         ensures { KeepsOtherNodes (is_among I.eq gone.now.keys) self.old self.new }
     {
-        self.held.retain(|entry| !is_gone(entry, gone));
+        if gone.is_empty() {
+            return;
+        }
+        if self.is_worth_letting_go(gone.len()) {
+            self.let_go(gone);
+            return;
+        }
+        self.noted_from = self.first_noted();
+        self.first_kept = self.next;
+        if let Err(NoMemory) = note_forgotten(&mut self.forgotten, gone, self.next) {
+            self.let_go(gone);
+        }
+    }
+
+    // Whether so much may be gone, with so many goals more, that it is worth to look at all that is held.
+    fn is_worth_letting_go(&self, gone: usize) -> bool {
+        let pushed = self.next.saturating_sub(self.first_noted());
+        let changed = self
+            .forgotten
+            .len()
+            .saturating_add(gone)
+            .saturating_add(pushed);
+        let held = self.held.len();
+        held < FEW || held / PART <= changed
+    }
+
+    // The number that was next when the first goal was forgotten whose memory is still there, if that is not now.
+    fn first_noted(&self) -> usize {
+        if self.forgotten.is_empty() {
+            return self.next;
+        }
+        self.noted_from
+    }
+
+    // Lets go of the nodes of these goals and of all that were forgotten.
+    fn let_go(&mut self, gone: &HashSet<I>)
+        ensures { KeepsOtherNodes (is_among I.eq gone.now.keys) self.old self.new }
+    {
+        let forgotten = &self.forgotten;
+        self.held.retain(|entry| !is_gone(entry, gone) && !is_forgotten(entry, forgotten));
+        self.forgotten = HashMap::new(*self.held.allocator());
+        self.first_kept = 0;
     }
 }
 

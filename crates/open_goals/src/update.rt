@@ -164,7 +164,7 @@ pub fn note_nested_goals<X: Cx>(
     state: &mut EntryState<X>,
     own: X::Input,
     step: PathKind,
-    nested_goals: &NestedGoals<X>,
+    nested_goals: &NestedGoals<X::Input>,
 ) -> Result<(), NoMemory>
     ensures others { state.new ≡ with_nested_goals state.old state.new.nested_goals }
     ensures taken { OnOk result (TakesNestedGoals X.Input.eq own step nested_goals.now

@@ -20,13 +20,13 @@ IsNewestCompared (s ∷ below) outcome =
 
 -- memory is out, or another result is stored of the newest goal than it came to: where its answer belongs, if
 -- that was to be stored
-abbrev pub NewestFailsToStore : {X F I R A T : Type 0} → (I → I → Bool) → Store I (StoredResult X I R A T)
+abbrev pub NewestFailsToStore : {X F I R A T : Type 0} → (I → I → Bool) → Store I (StoredResult I R T)
     → List (OpenGoal X F I R A T) → Fault I R → Type 0
 NewestFailsToStore same results [] fault = ⊥
 NewestFailsToStore same results (s ∷ below) fault = FailsToStore same results s.0.input (place_of_item s) fault
 
 module _ {D C V P F I R A T : Type 0} (G : DelegateOf D C V P F I R A T) (X : CxOf C I R A T) (same : I → I → Bool)
-    (outcome : R) (reason : Option (RebaseReason C I R A T)) (old : Cache C I R A T)
+    (outcome : R) (reason : Option (RebaseReason C I R A T)) (old : Cache C I R T)
     (before : Evaluation D C V P F I R A T) where
   -- The newest goal may be popped with the result: a definite one is that of its run; the goal came to it, and it is
   -- plain where the goal has a rank; the reason is true of the goal.
@@ -42,7 +42,7 @@ module _ {D C V P F I R A T : Type 0} (G : DelegateOf D C V P F I R A T) (X : Cx
   -- It was popped: its result is the answer to the goal below it, with its nested goals, or to the call, and comes with
   -- its node; the answer is stored, or was compared with the one that is, if it rests on no goal, and else becomes a
   -- provisional entry; its own scope is let go; entries that rested on the goal are rebased.
-  pub record Pops (next : Next R) (new : Cache C I R A T) (after : Evaluation D C V P F I R A T) : Type 0 where
+  pub record Pops (next : Next R) (new : Cache C I R T) (after : Evaluation D C V P F I R A T) : Type 0 where
     pub left : NewestLeaves outcome before.goals next after.goals
     pub node : HasNewestNode (verdicts X) old.nodes new.nodes before.goals outcome (node_given next)
     pub nested : LeavesNested same before.goals after.goals
@@ -56,7 +56,7 @@ module _ {D C V P F I R A T : Type 0} (G : DelegateOf D C V P F I R A T) (X : Cx
 
   -- It was popped, or could not be, for want of memory or since another result is stored than it came to. No other
   -- goal's results changed.
-  pub record PopsOrFails (result : Result (Next R) (Fault I R)) (new : Cache C I R A T)
+  pub record PopsOrFails (result : Result (Next R) (Fault I R)) (new : Cache C I R T)
       (after : Evaluation D C V P F I R A T) : Type 0 where
     pub popped : IfOk result (λ next. Pops next new after)
     pub fails : IfErr result (Fails G X same outcome old new after.drafts)

@@ -7,7 +7,7 @@ use Rattle.search_rules.specs.Moves.{Reruns}
 use Rattle.search_rules.specs.Runs.{EndsNewest, RerunsWithNode, StayFrom}
 
 module _ {D C V P F I R A T : Type 0} (G : DelegateOf D C V P F I R A T) (X : CxOf C I R A T) (same : I → I → Bool)
-    (outcome : R) (old : Cache C I R A T) (before : Evaluation D C V P F I R A T) where
+    (outcome : R) (old : Cache C I R T) (before : Evaluation D C V P F I R A T) where
   -- the newest goal may be run again: its run came to the result, and one more can be counted
   pub record MayRunAgain : Type 0 where
     pub some : 0 < length before.goals
@@ -17,7 +17,7 @@ module _ {D C V P F I R A T : Type 0} (G : DelegateOf D C V P F I R A T) (X : Cx
 
   -- it runs again with a new node, its cycles lead to the node of its result, and the entries that used
   -- its result are cleared
-  pub record RunsAgain (new : Cache C I R A T) (after : Evaluation D C V P F I R A T) : Type 0 where
+  pub record RunsAgain (new : Cache C I R T) (after : Evaluation D C V P F I R A T) : Type 0 where
     pub reran : Reruns G X old.cx outcome before.goals after.goals
     pub stays : StayFrom old.nodes before.goals after.goals
     pub cleared : (input : I) → entries_at same after.provisional input

@@ -19,10 +19,10 @@ module _ {D C V P F I R A T : Type 0} (G : DelegateOf D C V P F I R A T) (same_r
         entry.state.usages run.finished_runs outcome end
 
 module _ {D C V P F I R A T : Type 0} (G : DelegateOf D C V P F I R A T) (X : CxOf C I R A T) (same : I → I → Bool)
-    (same_result : R → R → Bool) (outcome : R) (old : Cache C I R A T) (before : Evaluation D C V P F I R A T) where
+    (same_result : R → R → Bool) (outcome : R) (old : Cache C I R T) (before : Evaluation D C V P F I R A T) where
   -- A goal that is done is popped with its result, for the reason why it needs no further run. One that had its most
   -- runs meets a limit, and is popped with the overflow result, for that reason. Any other is run again.
-  pub data RunLeads (next : Next R) (new : Cache C I R A T) (after : Evaluation D C V P F I R A T) : Type 0 where
+  pub data RunLeads (next : Next R) (new : Cache C I R T) (after : Evaluation D C V P F I R A T) : Type 0 where
     IsDone :
         (entry : StackEntry C I R A T) (run : Run C F I R A T) (reason : Option (RebaseReason C I R A T))
         → ComesToEnd G same_result outcome before entry run (Ok reason)
@@ -42,8 +42,8 @@ module _ {D C V P F I R A T : Type 0} (G : DelegateOf D C V P F I R A T) (X : Cx
         → after.limits_met ≡ before.limits_met → RunLeads next new after
 
 -- what the newest goal's rerun leaves as it was, whether it began or not: all but goals, provisional entries and nodes
-pub record RerunKeeps {D C V P F I R A T : Type 0} (G : DelegateOf D C V P F I R A T) (old : Cache C I R A T)
-    (before : Evaluation D C V P F I R A T) (starts : ℕ) (new : Cache C I R A T)
+pub record RerunKeeps {D C V P F I R A T : Type 0} (G : DelegateOf D C V P F I R A T) (old : Cache C I R T)
+    (before : Evaluation D C V P F I R A T) (starts : ℕ) (new : Cache C I R T)
     (after : Evaluation D C V P F I R A T) (later : ℕ) : Type 0 where
   pub cache : new ≡ record old { nodes = new.nodes }
   pub kept : KeepsFinished old.nodes new.nodes
@@ -53,31 +53,31 @@ pub record RerunKeeps {D C V P F I R A T : Type 0} (G : DelegateOf D C V P F I R
   pub at_most : later ≤ starts + 1
 
 module _ {D C V P F I R A T : Type 0} (G : DelegateOf D C V P F I R A T) (X : CxOf C I R A T) (same : I → I → Bool)
-    (same_result : R → R → Bool) (outcome : R) (old : Cache C I R A T)
+    (same_result : R → R → Bool) (outcome : R) (old : Cache C I R T)
     (before : Evaluation D C V P F I R A T) (starts : ℕ) where
   -- Such an end, also where the goal could not be popped, or not be run again for want of memory.
-  pub data RunEnds : Result (Next R) (Fault I R) → Cache C I R A T → Evaluation D C V P F I R A T → ℕ → Type 0 where
+  pub data RunEnds : Result (Next R) (Fault I R) → Cache C I R T → Evaluation D C V P F I R A T → ℕ → Type 0 where
     EndedDone :
         (entry : StackEntry C I R A T) (run : Run C F I R A T) (reason : Option (RebaseReason C I R A T))
-        (result : Result (Next R) (Fault I R)) (new : Cache C I R A T) (after : Evaluation D C V P F I R A T)
+        (result : Result (Next R) (Fault I R)) (new : Cache C I R T) (after : Evaluation D C V P F I R A T)
         → ComesToEnd G same_result outcome before entry run (Ok reason)
         → PopsOrFails G X same outcome reason old before result new after
         → RunEnds result new after starts
     EndedAtLimit :
         (entry : StackEntry C I R A T) (run : Run C F I R A T) (result : Result (Next R) (Fault I R))
-        (new : Cache C I R A T) (after : Evaluation D C V P F I R A T)
+        (new : Cache C I R T) (after : Evaluation D C V P F I R A T)
         → ComesToEnd G same_result outcome before entry run (Err AtLimit)
         → PopsOrFails G X same (G.fixpoint_overflow old.cx entry.input) (Some Overflow) old
         (record before { limits_met = true }) result new after
         → RunEnds result new after starts
     RanAgain :
-        (entry : StackEntry C I R A T) (run : Run C F I R A T) (new : Cache C I R A T)
+        (entry : StackEntry C I R A T) (run : Run C F I R A T) (new : Cache C I R T)
         (after : Evaluation D C V P F I R A T) (later : ℕ)
         → ComesToEnd G same_result outcome before entry run (Err Again) → RerunKeeps G old before starts new after later
         → RunsAgain G X same outcome old before new after → (G.counts ≡ true → CountsOne G.last starts later)
         → RunEnds (Ok (Step (record { reply = Begin; node = None }))) new after later
     NotRunAgain :
-        (entry : StackEntry C I R A T) (run : Run C F I R A T) (new : Cache C I R A T)
+        (entry : StackEntry C I R A T) (run : Run C F I R A T) (new : Cache C I R T)
         (after : Evaluation D C V P F I R A T) (later : ℕ)
         → ComesToEnd G same_result outcome before entry run (Err Again) → RerunKeeps G old before starts new after later
         → RunEnds (Err Memory) new after later

@@ -17,7 +17,7 @@ use Rattle.search_state.specs.declared.evaluation.Evaluation.{Evaluation}
 -- what a call works with: the graph, the cache, and how many frames were started
 pub record State (C I R A T : Type 0) : Type 0 where
   pub graph : Graph
-  pub cache : Cache C I R A T
+  pub cache : Cache C I R T
   pub starts : ℕ
 
 -- A call for a goal: whether its builder is a no-op, whether a stored result of the goal is looked for, what it
@@ -32,7 +32,7 @@ pub record Called (C I R A T : Type 0) : Type 0 where
   pub after : State C I R A T
 
 -- the stored result that may be used for the goal at this depth where no goal is under evaluation
-abbrev pub found_in : {C I R A T : Type 0} → (I → I → Bool) → Cache C I R A T → I → ℕ → Option (Hit I R T)
+abbrev pub found_in : {C I R T : Type 0} → (I → I → Bool) → Cache C I R T → I → ℕ → Option (Hit I R T)
 found_in same cache goal depth = first_accepted (λ nested. true) (usable same cache.results goal depth)
 
 module _ {D C V P F I R A T : Type 0} (G : DelegateOf D C V P F I R A T) (X : CxOf C I R A T)
@@ -52,8 +52,8 @@ module _ {D C V P F I R A T : Type 0} (G : DelegateOf D C V P F I R A T) (X : Cx
 
   -- A stored result that is looked for, and found, answers the goal, unless it is to be validated; then nothing
   -- changes. Else the goal is worked out, and its result is stored, compared with the stored one, or neither.
-  pub data Evaluated (noop looks_up : Bool) (kind : PathKind) (goal : I) (old : Cache C I R A T)
-      (e : Evaluation D C V P F I R A T) (starts : ℕ) : Result (Answer R) (Fault I R) → Cache C I R A T
+  pub data Evaluated (noop looks_up : Bool) (kind : PathKind) (goal : I) (old : Cache C I R T)
+      (e : Evaluation D C V P F I R A T) (starts : ℕ) : Result (Answer R) (Fault I R) → Cache C I R T
       → Evaluation D C V P F I R A T → ℕ → Type 0 where
     WasStored :
         (hit : Hit I R T)
@@ -62,7 +62,7 @@ module _ {D C V P F I R A T : Type 0} (G : DelegateOf D C V P F I R A T) (X : Cx
         → Evaluated noop looks_up kind goal old e starts
         (Ok (record { result = hit.result; node = hit.node })) old e starts
     WasWorkedOut :
-        (result : Result (Answer R) (Fault I R)) (new : Cache C I R A T)
+        (result : Result (Answer R) (Fault I R)) (new : Cache C I R T)
         (after : Evaluation D C V P F I R A T) (later : ℕ)
         → answered_by looks_up (G.scoped old.cx goal) (found_in same old goal e.root_depth.0) ≡ None
         → IsFated (G.scoped old.cx) (G.script old.cx) same old.results noop (record {

@@ -9,7 +9,7 @@ use Rattle.search_context.specs.declared.context.Answer.{Answer}
 use Rattle.search_state.specs.declared.evaluation.Evaluation.{Evaluation}
 
 -- What a call keeps of the cache: the context, stored results or equal ones, finished nodes, and each node's goal.
-pub record KeepsAll {C I R A T : Type 0} (same : I → I → Bool) (old new : Cache C I R A T) : Type 0 where
+pub record KeepsAll {C I R T : Type 0} (same : I → I → Bool) (old new : Cache C I R T) : Type 0 where
   pub context : new.cx ≡ old.cx
   pub results : KeepsResults same old.results new.results
   pub finished : KeepsFinished old.nodes new.nodes
@@ -39,7 +39,7 @@ pub record MovesGoals {C F I R A T : Type 0} (same : I → I → Bool) (suits : 
 
 -- An answer has its graph, and a fault its cause.
 pub record IsGrounded {D C V P F I R A T : Type 0} (G : DelegateOf D C V P F I R A T) (X : CxOf C I R A T)
-    (same : I → I → Bool) (goal : I) (cache : Cache C I R A T) (result : Result (Answer R) (Fault I R)) : Type 0 where
+    (same : I → I → Bool) (goal : I) (cache : Cache C I R T) (result : Result (Answer R) (Fault I R)) : Type 0 where
   pub has_graph : IfOk result (λ answer. HasGraph (verdicts X) cache.nodes goal answer.result answer.node)
   pub caused : IfErr result (IsCaused G X same cache)
 
@@ -47,9 +47,9 @@ module _ {D C V P F I R A T : Type 0} (G : DelegateOf D C V P F I R A T) (X : Cx
     (same : I → I → Bool) (cx : C) where
   -- where the call began, an answer ended it, which is stored where this holds and whose result is as this says,
   -- or a fault stopped it
-  pub record Evaluates (is_stored : Type 0) (is_expected : R → Type 0) (goal : I) (old : Cache C I R A T)
+  pub record Evaluates (is_stored : Type 0) (is_expected : R → Type 0) (goal : I) (old : Cache C I R T)
       (before : Evaluation D C V P F I R A T) (from : ℕ) (result : Result (Answer R) (Fault I R))
-      (new : Cache C I R A T) (after : Evaluation D C V P F I R A T) (to : ℕ) : Type 0 where
+      (new : Cache C I R T) (after : Evaluation D C V P F I R A T) (to : ℕ) : Type 0 where
     pub ended : (call : Call I) → Begins G X cx same call goal before.root_depth.0 from before.limits_met old.results
         → IfOk result (λ answer. EndsWith G X same cx is_stored is_expected call answer new after to)
     pub stopped : (call : Call I) → Begins G X cx same call goal before.root_depth.0 from before.limits_met old.results

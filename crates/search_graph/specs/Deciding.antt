@@ -18,15 +18,15 @@ module _ {I R : Type 0} (says : Verdicts R) (scripts : I → List (Reply R) → 
         → AreDecided says replies → request_after (scripts goal) replies ≡ Some (Done r) → IsDefinite says r
 
   -- each result that is stored of a goal that is reached is yes or no
-  abbrev pub AreDefiniteFrom : {X A T : Type 0} → (I → I → Bool) → Store I (StoredResult X I R A T) → Type 0
-  AreDefiniteFrom {X} {A} {T} same results =
-      (goal : I) → MayReach scripts top goal → (place : Place) (s : StoredResult X I R A T)
+  abbrev pub AreDefiniteFrom : {T : Type 0} → (I → I → Bool) → Store I (StoredResult I R T) → Type 0
+  AreDefiniteFrom {T} same results =
+      (goal : I) → MayReach scripts top goal → (place : Place) (s : StoredResult I R T)
       → stored_at same results goal place ≡ Some s → IsDefinite says s.result.result
 
 -- each result that is stored afterwards is yes or no, or was stored in its place before
-abbrev pub StoresDefinite : {X I R A T : Type 0} → Verdicts R → (I → I → Bool)
-    → (old new : Store I (StoredResult X I R A T)) → Type 0
-StoresDefinite {X} {I} {R} {A} {T} says same old new =
-    (goal : I) (place : Place) (s : StoredResult X I R A T) → stored_at same new goal place ≡ Some s
+abbrev pub StoresDefinite : {I R T : Type 0} → Verdicts R → (I → I → Bool)
+    → (old new : Store I (StoredResult I R T)) → Type 0
+StoresDefinite {I} {R} {T} says same old new =
+    (goal : I) (place : Place) (s : StoredResult I R T) → stored_at same new goal place ≡ Some s
     → IsDefinite says s.result.result
     ⊎ (option_map (λ t. t.result.result) (stored_at same old goal place) ≡ Some s.result.result)

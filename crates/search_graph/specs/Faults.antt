@@ -14,7 +14,7 @@ use Rattle.search_rules.specs.Results.{place_of_item}
 use Rattle.search_state.specs.declared.evaluation.Evaluation.{Evaluation}
 
 module _ {D C V P F I R A T : Type 0} (G : DelegateOf D C V P F I R A T) (same : I → I → Bool) (cx : C)
-    (results : Store I (StoredResult C I R A T)) (met : Bool) where
+    (results : Store I (StoredResult I R T)) (met : Bool) where
   -- the goal's script came to the result after replies that fit; or it is that of a goal that had its most
   -- runs, and one had them
   abbrev pub HasComeTo : I → R → Type 0
@@ -45,16 +45,16 @@ module _ {D C V P F I R A T : Type 0} {G : DelegateOf D C V P F I R A T} {X : Cx
     {same : I → I → Bool} {same_result : R → R → Bool} where
   module _ {noop : Bool} where
     -- the goals that were under evaluation before the last turn, the newest first
-    abbrev pub last_goals : {kind : PathKind} {goal : I} {fate : Fate R} {old : Cache C I R A T}
-        {e : Evaluation D C V P F I R A T} {starts : ℕ} {result : Result (Next R) (Fault I R)} {new : Cache C I R A T}
+    abbrev pub last_goals : {kind : PathKind} {goal : I} {fate : Fate R} {old : Cache C I R T}
+        {e : Evaluation D C V P F I R A T} {starts : ℕ} {result : Result (Next R) (Fault I R)} {new : Cache C I R T}
         {after : Evaluation D C V P F I R A T} {later : ℕ}
         → Ran G X same same_result noop kind goal fate old e starts result new after later → List (OpenGoal C F I R A T)
     last_goals (Began goals held nodes later pushes fates holds nodes_kept one counted) = []
     last_goals (NotBegun goals held later least one) = []
     last_goals (Then given mid between now result new after later ran turned) = between.goals
 
-    abbrev pub last_goals_of : {looks_up : Bool} {kind : PathKind} {goal : I} {old : Cache C I R A T}
-        {e : Evaluation D C V P F I R A T} {starts : ℕ} {result : Result (Answer R) (Fault I R)} {new : Cache C I R A T}
+    abbrev pub last_goals_of : {looks_up : Bool} {kind : PathKind} {goal : I} {old : Cache C I R T}
+        {e : Evaluation D C V P F I R A T} {starts : ℕ} {result : Result (Answer R) (Fault I R)} {new : Cache C I R T}
         {after : Evaluation D C V P F I R A T} {later : ℕ}
         → Evaluated G X same same_result noop looks_up kind goal old e starts result new after later
         → List (OpenGoal C F I R A T)

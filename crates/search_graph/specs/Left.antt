@@ -4,13 +4,13 @@ use Rattle.search_context.specs.declared.context.Fault.TheVariants.{Conflict, Va
 use Rattle.search_graph.specs.Below.{Cache, CacheNode, Fault, HasGraph, NodeId, Place, stored_at}
 use Rattle.search_graph.specs.Below.{StoredResult, Verdicts}
 
-module _ {C I R A T : Type 0} (says : Verdicts R) where
+module _ {C I R T : Type 0} (says : Verdicts R) where
   -- the node shows a result that is stored: it is the result's own, or was that of an equal one
   -- which stood in its place
-  pub record ShowsStored (same : I → I → Bool) (cache : Cache C I R A T) (node : NodeId) : Type 0 where
+  pub record ShowsStored (same : I → I → Bool) (cache : Cache C I R T) (node : NodeId) : Type 0 where
     pub goal : I
     pub place : Place
-    pub stored : StoredResult C I R A T
+    pub stored : StoredResult I R T
     pub is_stored : stored_at same cache.results goal place ≡ Some stored
     pub shows : HasGraph says cache.nodes goal stored.result.result (Some node)
 

@@ -29,8 +29,8 @@ met_either first then =
 module _ {D C V P F I R A T : Type 0} {G : DelegateOf D C V P F I R A T} {X : CxOf C I R A T}
     {same : I → I → Bool} {same_result : R → R → Bool} where
   -- the end of a run meets one where its goal has had its most runs,
-  abbrev pub met_at_end : {outcome : R} {old : Cache C I R A T} {e : Evaluation D C V P F I R A T} {starts : ℕ}
-      {result : Result (Next R) (Fault I R)} {new : Cache C I R A T} {after : Evaluation D C V P F I R A T} {later : ℕ}
+  abbrev pub met_at_end : {outcome : R} {old : Cache C I R T} {e : Evaluation D C V P F I R A T} {starts : ℕ}
+      {result : Result (Next R) (Fault I R)} {new : Cache C I R T} {after : Evaluation D C V P F I R A T} {later : ℕ}
       → RunEnds G X same same_result outcome old e starts result new after later → LimitsMet
   met_at_end (EndedDone entry run reason result new after comes pop) = no_limits_met
   met_at_end (EndedAtLimit entry run result new after comes pop) = record { refused = false; most_runs = true }
@@ -39,8 +39,8 @@ module _ {D C V P F I R A T : Type 0} {G : DelegateOf D C V P F I R A T} {X : Cx
 
   module _ {noop : Bool} where
     -- and a question where it has no depth, whether memory is out or not;
-    abbrev pub met_by_move : {received : Received R} {old : Cache C I R A T} {e : Evaluation D C V P F I R A T}
-        {starts : ℕ} {result : Result (Next R) (Fault I R)} {new : Cache C I R A T}
+    abbrev pub met_by_move : {received : Received R} {old : Cache C I R T} {e : Evaluation D C V P F I R A T}
+        {starts : ℕ} {result : Result (Next R) (Fault I R)} {new : Cache C I R T}
         {after : Evaluation D C V P F I R A T} {later : ℕ}
         → Advanced G X same same_result noop received old e starts result new after later → LimitsMet
     met_by_move (FrameFailed fault goals failed) = no_limits_met
@@ -53,8 +53,8 @@ module _ {D C V P F I R A T : Type 0} {G : DelegateOf D C V P F I R A T} {X : Cx
     met_by_move (NotNoted request goals left stepped) = no_limits_met
 
     -- so a turn meets those of its move, and a call those of its turns.
-    abbrev pub met_by_turn : {received : Received R} {old : Cache C I R A T} {e : Evaluation D C V P F I R A T}
-        {starts : ℕ} {result : Result (Next R) (Fault I R)} {new : Cache C I R A T}
+    abbrev pub met_by_turn : {received : Received R} {old : Cache C I R T} {e : Evaluation D C V P F I R A T}
+        {starts : ℕ} {result : Result (Next R) (Fault I R)} {new : Cache C I R T}
         {after : Evaluation D C V P F I R A T} {later : ℕ}
         → Turned G X same same_result noop received old e starts result new after later → LimitsMet
     met_by_turn (GoesOn given mid new between after later advanced goes is first stored) = met_by_move advanced
@@ -63,8 +63,8 @@ module _ {D C V P F I R A T : Type 0} {G : DelegateOf D C V P F I R A T} {X : Cx
     met_by_turn (Failed fault mid new between after later advanced goes is) = met_by_move advanced
     met_by_turn (FailedForGood fault new between after later advanced is) = met_by_move advanced
 
-    abbrev pub met_in_turns : {kind : PathKind} {goal : I} {fate : Fate R} {old : Cache C I R A T}
-        {e : Evaluation D C V P F I R A T} {starts : ℕ} {result : Result (Next R) (Fault I R)} {new : Cache C I R A T}
+    abbrev pub met_in_turns : {kind : PathKind} {goal : I} {fate : Fate R} {old : Cache C I R T}
+        {e : Evaluation D C V P F I R A T} {starts : ℕ} {result : Result (Next R) (Fault I R)} {new : Cache C I R T}
         {after : Evaluation D C V P F I R A T} {later : ℕ}
         → Ran G X same same_result noop kind goal fate old e starts result new after later → LimitsMet
     met_in_turns (Began goals held nodes later pushes fates holds nodes_kept one counted) = no_limits_met
@@ -72,8 +72,8 @@ module _ {D C V P F I R A T : Type 0} {G : DelegateOf D C V P F I R A T} {X : Cx
     met_in_turns (Then given mid between now result new after later ran turned) =
         met_either (met_in_turns ran) (met_by_turn turned)
 
-    abbrev pub met_in_evaluation : {looks_up : Bool} {kind : PathKind} {goal : I} {old : Cache C I R A T}
-        {e : Evaluation D C V P F I R A T} {starts : ℕ} {result : Result (Answer R) (Fault I R)} {new : Cache C I R A T}
+    abbrev pub met_in_evaluation : {looks_up : Bool} {kind : PathKind} {goal : I} {old : Cache C I R T}
+        {e : Evaluation D C V P F I R A T} {starts : ℕ} {result : Result (Answer R) (Fault I R)} {new : Cache C I R T}
         {after : Evaluation D C V P F I R A T} {later : ℕ}
         → Evaluated G X same same_result noop looks_up kind goal old e starts result new after later → LimitsMet
     met_in_evaluation (WasStored hit found usable) = no_limits_met

@@ -22,10 +22,10 @@ abbrev pub frames_for : {I : Type 0} → ℕ → ℕ → List (ℕ × I × PathK
 frames_for runs width queries = sum_by (λ query. frames_within runs width query.0) queries
 
 module _ {D C V P F I R A T : Type 0} (G : DelegateOf D C V P F I R A T) (X : CxOf C I R A T)
-    (same : I → I → Bool) (cache : Cache C I R A T) where
+    (same : I → I → Bool) (cache : Cache C I R T) where
   -- the fault has its cause in a cache whose results and finished nodes this one has still
   pub record HadCause (fault : Fault I R) : Type 0 where
-    pub before : Cache C I R A T
+    pub before : Cache C I R T
     pub same_context : cache.cx ≡ before.cx
     pub kept_results : KeepsResults same before.results cache.results
     pub kept : KeepsFinished before.nodes cache.nodes
@@ -68,7 +68,7 @@ module _ {D C V P F I R A T : Type 0} (G : DelegateOf D C V P F I R A T)
   -- and requests out of order; and no result is stored that met overflow. One that is met is paid for. Where the
   -- queries are enclosed, no question is refused: no result of the goals is stored that met overflow, and a limit costs
   -- all runs of one goal.
-  pub record HasLimits (met : Bool) (queries : List (ℕ × I × PathKind)) (old new : Cache C I R A T) (before now : ℕ)
+  pub record HasLimits (met : Bool) (queries : List (ℕ × I × PathKind)) (old new : Cache C I R T) (before now : ℕ)
       (answers : List (Result (Answer R) (Fault I R))) : Type 0 where
     pub decisive : IsDecisive (verdicts X) (G.script old.cx) → AreDefinite (verdicts X) same old.results → met ≡ false
         → AreDefinite (verdicts X) same new.results
@@ -90,8 +90,8 @@ abbrev pub met_in : List Graph → Bool
 met_in graphs = list_any (λ graph. graph.limits_met) graphs
 
 -- the call that a query makes, which is made on a new graph
-abbrev pub call_for : {C I R A T : Type 0} → (noop : Bool) → ℕ × I × PathKind → Cache C I R A T → ℕ
-    → Result (Answer R) (Fault I R) → Graph → Cache C I R A T → ℕ → Called C I R A T
+abbrev pub call_for : {C I R A T : Type 0} → (noop : Bool) → ℕ × I × PathKind → Cache C I R T → ℕ
+    → Result (Answer R) (Fault I R) → Graph → Cache C I R T → ℕ → Called C I R A T
 call_for noop query old from result left new to = record {
   goal = query.1;
   noop = noop;
@@ -106,30 +106,30 @@ call_for noop query old from result left new to = record {
 pub record Listed (C I R A T : Type 0) : Type 0 where
   pub noop : Bool
   pub queries : List (ℕ × I × PathKind)
-  pub before : Cache C I R A T
+  pub before : Cache C I R T
   pub starts : ℕ
   pub answers : List (Result (Answer R) (Fault I R))
   pub graphs : List Graph
-  pub after : Cache C I R A T
+  pub after : Cache C I R T
   pub later : ℕ
 
 module _ {D C V P F I R A T : Type 0} (G : DelegateOf D C V P F I R A T) (X : CxOf C I R A T) (same : I → I → Bool)
     (same_result : R → R → Bool) (noop : Bool) where
   -- the queries' calls were made, one after another, with these answers, and left these graphs
-  pub data AllRan (old : Cache C I R A T) (from : ℕ) : List (ℕ × I × PathKind) → List (Result (Answer R) (Fault I R))
-      → List Graph → Cache C I R A T → ℕ → Type 0 where
+  pub data AllRan (old : Cache C I R T) (from : ℕ) : List (ℕ × I × PathKind) → List (Result (Answer R) (Fault I R))
+      → List Graph → Cache C I R T → ℕ → Type 0 where
     NoneRan : AllRan old from [] [] [] old from
     ThenRan :
         (queries : List (ℕ × I × PathKind)) (answers : List (Result (Answer R) (Fault I R))) (graphs : List Graph)
-        (mid : Cache C I R A T) (between : ℕ)
+        (mid : Cache C I R T) (between : ℕ)
         (query : ℕ × I × PathKind) (answer : Result (Answer R) (Fault I R))
-        (graph : Graph) (new : Cache C I R A T) (to : ℕ)
+        (graph : Graph) (new : Cache C I R T) (to : ℕ)
         → AllRan old from queries answers graphs mid between
         → HasRun G X same same_result (call_for noop query mid between answer graph new to)
         → AllRan old from (queries ++ query ∷ []) (answers ++ answer ∷ []) (graphs ++ graph ∷ []) new to
 
   -- and these answers were appended
-  pub record HaveRun (queries : List (ℕ × I × PathKind)) (old new : Cache C I R A T) (from to : ℕ)
+  pub record HaveRun (queries : List (ℕ × I × PathKind)) (old new : Cache C I R T) (from to : ℕ)
       (answers_old answers_new : List (Result (Answer R) (Fault I R))) : Type 0 where
     pub more : List (Result (Answer R) (Fault I R))
     pub graphs : List Graph
@@ -138,10 +138,10 @@ module _ {D C V P F I R A T : Type 0} (G : DelegateOf D C V P F I R A T) (X : Cx
 
   -- the query has this answer of a call
   pub record WasCalled (query : ℕ × I × PathKind) (answer : Result (Answer R) (Fault I R)) : Type 0 where
-    pub old : Cache C I R A T
+    pub old : Cache C I R T
     pub from : ℕ
     pub graph : Graph
-    pub new : Cache C I R A T
+    pub new : Cache C I R T
     pub to : ℕ
     pub ran : HasRun G X same same_result (call_for noop query old from answer graph new to)
 

@@ -10,8 +10,8 @@ use Rattle.search_state.specs.declared.evaluation.Evaluation.{Evaluation}
 -- The call is answered or stops, stored results and nodes that were there stay, and the answer has its graph,
 -- or the fault its cause.
 pub record WorksOut {D C V P F I R A T : Type 0} (G : DelegateOf D C V P F I R A T) (X : CxOf C I R A T)
-    (same : I → I → Bool) (noop : Bool) (goal : I) (fate : Fate R) (old : Cache C I R A T)
-    (before : Evaluation D C V P F I R A T) (from : ℕ) (result : Result (Answer R) (Fault I R)) (new : Cache C I R A T)
+    (same : I → I → Bool) (noop : Bool) (goal : I) (fate : Fate R) (old : Cache C I R T)
+    (before : Evaluation D C V P F I R A T) (from : ℕ) (result : Result (Answer R) (Fault I R)) (new : Cache C I R T)
     (after : Evaluation D C V P F I R A T) (to : ℕ) : Type 0 where
   pub evaluates : Evaluates G X same old.cx (fate ≡ becomes.Stored) (IsOfFate fate)
       goal old before from result new after to

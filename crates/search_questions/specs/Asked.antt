@@ -59,19 +59,19 @@ module _ {D C V P F I R A T : Type 0} (G : DelegateOf D C V P F I R A T) (X : Cx
   entry_for e = usable_entry same G.ENABLE_PROVISIONAL_CACHE (asking e) goal
 
   -- the stored result that may be used for it at this depth
-  abbrev pub found_for : Cache C I R A T → Evaluation D C V P F I R A T → ℕ → Option (Hit I R T)
+  abbrev pub found_for : Cache C I R T → Evaluation D C V P F I R A T → ℕ → Option (Hit I R T)
   found_for cache e depth = first_accepted (is_applicable same (asking e)) (usable same cache.results goal depth)
 
   -- the one that answers it, if the builder lets one do so, and the goal is in no scope
-  abbrev pub stored_for : (noop : Bool) → Cache C I R A T → Evaluation D C V P F I R A T → ℕ → Option (Hit I R T)
+  abbrev pub stored_for : (noop : Bool) → Cache C I R T → Evaluation D C V P F I R A T → ℕ → Option (Hit I R T)
   stored_for noop cache e depth = answered_by noop (G.scoped cx goal) (found_for cache e depth)
 
   -- A question of a goal without depth is refused, which meets a limit. Any other is answered by a provisional entry,
   -- if one may be used; else by a stored result, if one may be used; else over a cycle, if its goal is on the stack;
   -- else its goal is pushed. With a builder that records no stored result is used, and that of a goal that is pushed is
   -- not stored; in a scope it is compared with the one that is stored, and the scope is held.
-  pub data AskingLeadsTo (noop : Bool) (old : Cache C I R A T) (e : Evaluation D C V P F I R A T) (starts : ℕ) :
-      Received R → Cache C I R A T → Evaluation D C V P F I R A T → ℕ → Type 0 where
+  pub data AskingLeadsTo (noop : Bool) (old : Cache C I R T) (e : Evaluation D C V P F I R A T) (starts : ℕ) :
+      Received R → Cache C I R T → Evaluation D C V P F I R A T → ℕ → Type 0 where
     Refused :
         (goals : List (OpenGoal C F I R A T))
         → None ≡ question_depth G e → NotesOverflow same e.goals goals
@@ -115,8 +115,8 @@ module _ {D C V P F I R A T : Type 0} (G : DelegateOf D C V P F I R A T) (X : Cx
         (record e { goals = goals; scopes = held }) later
 
 -- Memory was out: as a question was refused, or was about to be answered at this depth, or its goal to be pushed.
-pub data AskingFails {D C V P F I R A T : Type 0} (G : DelegateOf D C V P F I R A T) (old : Cache C I R A T)
-    (e : Evaluation D C V P F I R A T) (starts : ℕ) : Cache C I R A T → Evaluation D C V P F I R A T → ℕ → Type 0 where
+pub data AskingFails {D C V P F I R A T : Type 0} (G : DelegateOf D C V P F I R A T) (old : Cache C I R T)
+    (e : Evaluation D C V P F I R A T) (starts : ℕ) : Cache C I R T → Evaluation D C V P F I R A T → ℕ → Type 0 where
   NotRefused : (goals : List (OpenGoal C F I R A T)) → None ≡ question_depth G e
       → AskingFails G old e starts old (record e { goals = goals; limits_met = true }) starts
   NotAnsweredAt :
@@ -127,7 +127,7 @@ pub data AskingFails {D C V P F I R A T : Type 0} (G : DelegateOf D C V P F I R 
 
 -- A question adds at most a node, and meets a limit if it has no depth, also where memory was out.
 pub record Asks {D C V P F I R A T : Type 0} (G : DelegateOf D C V P F I R A T) (same : I → I → Bool)
-    (old : Cache C I R A T) (e : Evaluation D C V P F I R A T) (new : Cache C I R A T)
+    (old : Cache C I R T) (e : Evaluation D C V P F I R A T) (new : Cache C I R T)
     (after : Evaluation D C V P F I R A T) : Type 0 where
   pub cache : KeepsCache same e.goals old new
   pub same_results : new.results ≡ old.results

@@ -18,7 +18,7 @@ module _ {D C V P F I R A T : Type 0} (same : I → I → Bool) where
   -- Nodes are let go, but none that was there before the call, and none to which the goals under evaluation, the reply
   -- for the newest one, the provisional entries or the stored results lead.
   pub record LetsGo (e : Evaluation D C V P F I R A T) (target : Option NodeId)
-      (old new : Cache C I R A T) : Type 0 where
+      (old new : Cache C I R T) : Type 0 where
     pub live : ℕ → Bool
     pub collected : Collected live old.nodes new.nodes
     pub goals : AreLiveRuns live (runs_of e.goals)
@@ -32,7 +32,7 @@ module _ {D C V P F I R A T : Type 0} (same : I → I → Bool) where
   -- nodes are let go at the end of a call, but none that was there before, and none to which the answer, stored
   -- results or noted nodes lead
   pub record LetsGoAtEnd (e : Evaluation D C V P F I R A T) (target : Option NodeId)
-      (old new : Cache C I R A T) : Type 0 where
+      (old new : Cache C I R T) : Type 0 where
     pub live : ℕ → Bool
     pub collected : Collected live old.nodes new.nodes
     pub results : AreLiveResults live same old.results

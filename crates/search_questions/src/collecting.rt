@@ -23,9 +23,9 @@ pub fn collect_drafts<D: Delegate>(
     ensures stored { evaluation.new.drafts.stored ≡ evaluation.old.drafts.stored }
     ensures rest { evaluation.new ≡ record evaluation.old { drafts = evaluation.new.drafts } }
 {
-    if evaluation.drafts.are_many(cache.held_nodes()) {
+    if evaluation.drafts.are_many(cache.nodes_in_memory()) {
         let _ = collect(evaluation, cache, target);
-        evaluation.drafts.looked_through(cache.held_nodes());
+        evaluation.drafts.looked_through(cache.nodes_in_memory());
     }
 }
 

@@ -7,7 +7,7 @@ use Rattle.search_rules.specs.Below.{fault_after, request_after, stored_at, Cach
 use Rattle.search_rules.specs.Below.{IsProofGraph, IsRefutationGraph, IsDefinite, verdict_of, Verdicts}
 use Rattle.search_context.specs.declared.context.Answer.{Answer}
 
-module _ {C I R A T : Type 0} (X : CxOf C I R A T) (cache : Cache C I R A T) (goal : I) (node : Option NodeId) where
+module _ {C I R A T : Type 0} (X : CxOf C I R A T) (cache : Cache C I R T) (goal : I) (node : Option NodeId) where
   -- the node is the root of a proof graph of the goal, which has no refutation graph anywhere
   pub record IsProved : Type 0 where
     pub graph : IsSomeAnd node (λ root. IsProofGraph (X.proves cache.cx) (graph_nodes_of cache.nodes) root.0 goal)
@@ -31,8 +31,8 @@ pub record Decides {C I R A T : Type 0} (X : CxOf C I R A T) (cx : C) (goal : I)
       → IsRefutationGraph (X.refutes cx) nodes root goal → X.is_no r ≡ true
 
 -- a call for the goal at this depth is answered so by what is stored
-abbrev pub IsRemembered : {X I R A T : Type 0} → (I → I → Bool)
-    → Store I (StoredResult X I R A T) → I → ℕ → Answer R → Type 0
+abbrev pub IsRemembered : {I R T : Type 0} → (I → I → Bool)
+    → Store I (StoredResult I R T) → I → ℕ → Answer R → Type 0
 IsRemembered same results goal depth answer =
     IsSomeAnd (first_accepted (λ _. true) (usable same results goal depth))
     (λ hit. (hit.result ≡ answer.result) × (hit.node ≡ answer.node))
@@ -60,7 +60,7 @@ abbrev pub HasOneOfEach : {R : Type 0} → Verdicts R → Type 0
 HasOneOfEach {R} says = (x y : R) → IsDefinite says x → verdict_of says x ≡ verdict_of says y → x ≡ y
 
 module _ {D C V P F I R A T : Type 0} (G : DelegateOf D C V P F I R A T) (X : CxOf C I R A T)
-    (same : I → I → Bool) (cache : Cache C I R A T) where
+    (same : I → I → Bool) (cache : Cache C I R T) where
   -- The goal came to `found`, and the cache holds another result of it in the same place. Each of the two has its
   -- graph, if it is yes or no.
   pub record Conflicts (goal : I) (stored found : R) : Type 0 where

@@ -43,21 +43,21 @@ module _ {D C V P F I R A T : Type 0} (G : DelegateOf D C V P F I R A T) (X : Cx
   -- before; where the delegate is decisive, each is yes or no until a limit is met. Each requires no more than the root
   -- depth, or as much as one did before.
   pub record KeepsStore (same : I → I → Bool) (call : Call I) (met : Bool)
-      (results : Store I (StoredResult C I R A T)) : Type 0 where
+      (results : Store I (StoredResult I R T)) : Type 0 where
     pub overflow : CallMeetsNone G X cx call met → HaveNoOverflowOf (HadNoOverflow call) same results
     pub definite : Decidedly call met (AreDefinite (verdicts X) same results)
     pub within : RequireWithin same call.root call.stood results
 
   -- what a call keeps of those and of the answers in the provisional cache
   pub record KeepsAnswers (same : I → I → Bool) (call : Call I) (met : Bool)
-      (results : Store I (StoredResult C I R A T)) (entries : Lists I (ProvisionalCacheEntry C I R A T)) : Type 0 where
+      (results : Store I (StoredResult I R T)) (entries : Lists I (ProvisionalCacheEntry C I R A T)) : Type 0 where
     pub store : KeepsStore same call met results
     pub met_none : CallMeetsNone G X cx call met → EntriesMetNone same entries
     pub definite : Decidedly call met (EntriesDefinite (verdicts X) same entries)
 
   -- the call begins with these stored results
   pub record Begins (same : I → I → Bool) (call : Call I) (input : I) (root starts : ℕ) (met : Bool)
-      (results : Store I (StoredResult C I R A T)) : Type 0 where
+      (results : Store I (StoredResult I R T)) : Type 0 where
     pub outset : Outset call input root starts met
     pub store : KeepsStore same call met results
 

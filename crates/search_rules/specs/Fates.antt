@@ -63,14 +63,14 @@ MeetsNewest [] r = Unit {0}
 MeetsNewest (s ∷ below) r = (stored : _) → s.fate ≡ becomes.Compared stored → r ≡ stored
 
 -- the result is stored of the goal, which is in a scope
-pub record IsExpected {X I R A T : Type 0} (scopes : I → Bool) (same : I → I → Bool)
-    (results : Store I (StoredResult X I R A T)) (goal : I) (r : R) : Type 0 where
+pub record IsExpected {I R T : Type 0} (scopes : I → Bool) (same : I → I → Bool)
+    (results : Store I (StoredResult I R T)) (goal : I) (r : R) : Type 0 where
   pub in_scope : scopes goal ≡ true
   pub place : Place
   pub is_stored : option_map (λ s. s.result.result) (stored_at same results goal place) ≡ Some r
 
-module _ {X I R A T : Type 0} (scopes : I → Bool) (scripts : I → List (Reply R) → Request I R) (same : I → I → Bool)
-    (results : Store I (StoredResult X I R A T)) where
+module _ {I R T : Type 0} (scopes : I → Bool) (scripts : I → List (Reply R) → Request I R) (same : I → I → Bool)
+    (results : Store I (StoredResult I R T)) where
   -- What the goal's result is to be compared with is stored of it; and is its plain value, if its rank fits its depth.
   pub record HasExpected (s : Fated I R) : Type 0 where
     pub expected : IfCompared s.fate (IsExpected scopes same results s.goal)

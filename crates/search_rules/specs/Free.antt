@@ -12,8 +12,8 @@ IsFree says nodes goals = HasNode says nodes
     (λ verdict n. Use (shapes_of says nodes) verdict (stack_of (frames_of says goals)) (λ depth. 0) 0 n no_heads)
 
 -- the same of each stored result
-abbrev pub AreFree : {X I R A T : Type 0} → Verdicts R → (I → I → Bool) → List (CacheNode I R) → List (OpenRun I R)
-    → Store I (StoredResult X I R A T) → Type 0
-AreFree {X} {I} {R} {A} {T} says same nodes goals results =
-    (goal : I) (place : Place) (s : StoredResult X I R A T) → stored_at same results goal place ≡ Some s
+abbrev pub AreFree : {I R T : Type 0} → Verdicts R → (I → I → Bool) → List (CacheNode I R) → List (OpenRun I R)
+    → Store I (StoredResult I R T) → Type 0
+AreFree {I} {R} {T} says same nodes goals results =
+    (goal : I) (place : Place) (s : StoredResult I R T) → stored_at same results goal place ≡ Some s
     → IsFree says nodes goals goal s.result.result s.node

@@ -27,7 +27,7 @@ module _ (live : ℕ → Bool) where
   AreLiveEntries {I = I} same lists = (goal : I) → All (λ entry. IsLiveNode entry.node) (entries_at same lists goal)
 
   -- the same of all stored results
-  abbrev pub AreLiveResults : {X I R A T : Type 0} → (I → I → Bool) → Store I (StoredResult X I R A T) → Type 0
-  AreLiveResults {X} {I} {R} {A} {T} same results =
-      (goal : I) (place : Place) (s : StoredResult X I R A T)
+  abbrev pub AreLiveResults : {I R T : Type 0} → (I → I → Bool) → Store I (StoredResult I R T) → Type 0
+  AreLiveResults {I} {R} {T} same results =
+      (goal : I) (place : Place) (s : StoredResult I R T)
       → stored_at same results goal place ≡ Some s → IsLiveNode s.node

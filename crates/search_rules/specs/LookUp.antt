@@ -22,6 +22,20 @@ module _ {X I R A T : Type 0} where
       not entry.encountered_overflow && highest_passes
       (λ at _. has_kind (extended paths (path_kind_from asking.stack at asking.step)) entry.path_from_head) entry.heads
 
+-- The result is stored of the goal and may be used at the depth. If the goal has a rank, it is the plain value; or it
+-- met overflow, and the depth is below the rank.
+pub record IsUsable {I R T : Type 0} (same : I → I → Bool) (scripts : I → List (Reply R) → Request I R)
+    (results : Store I (StoredResult I R T)) (goal : I) (depth : ℕ) (hit : Hit I R T) : Type 0 where
+  pub place : Place
+  pub stored : StoredResult I R T
+  pub is_stored : stored_at same results goal place ≡ Some stored
+  pub result_is : stored.result.result ≡ hit.result
+  pub node_is : stored.node ≡ hit.node
+  pub place_is : hit.encountered_overflow ≡ true → place ≡ WithOverflow depth
+  pub value : hit.encountered_overflow ≡ false → IsPlain scripts goal hit.result
+  pub overflow : hit.encountered_overflow ≡ true → IsBelowRank scripts goal depth
+  pub within : hit.required_depth ≤ depth
+
 module _ {X I R A T : Type 0} (same : I → I → Bool) where
   -- the highest head of each entry is on the stack
   abbrev pub AreOnStack : List (StackEntry X I R A T) → Lists I (ProvisionalCacheEntry X I R A T) → Type 0
@@ -43,25 +57,11 @@ module _ {X I R A T : Type 0} (same : I → I → Bool) where
   usable_entry enabled asking goal =
       if enabled then find (may_be_used asking.stack asking.step) (entries_at same asking.entries goal) else None
 
-  -- The result is stored of the goal and may be used at the depth. If the goal has a rank, it is the plain value; or it
-  -- met overflow, and the depth is below the rank.
-  pub record IsUsable (scripts : I → List (Reply R) → Request I R) (results : Store I (StoredResult X I R A T))
-      (goal : I) (depth : ℕ) (hit : Hit I R T) : Type 0 where
-    pub place : Place
-    pub stored : StoredResult X I R A T
-    pub is_stored : stored_at same results goal place ≡ Some stored
-    pub result_is : stored.result.result ≡ hit.result
-    pub node_is : stored.node ≡ hit.node
-    pub place_is : hit.encountered_overflow ≡ true → place ≡ WithOverflow depth
-    pub value : hit.encountered_overflow ≡ false → IsPlain scripts goal hit.result
-    pub overflow : hit.encountered_overflow ≡ true → IsBelowRank scripts goal depth
-    pub within : hit.required_depth ≤ depth
-
   -- the newest goal's question was answered so
   pub record UsesStored {F : Type 0} (scripts : I → List (Reply R) → Request I R)
-      (results : Store I (StoredResult X I R A T)) (step : PathKind) (goal : I) (depth : ℕ) (received : Received R)
+      (results : Store I (StoredResult I R T)) (step : PathKind) (goal : I) (depth : ℕ) (received : Received R)
       (old new : List (OpenGoal X F I R A T)) : Type 0 where
     pub hit : Hit I R T
-    pub usable : IsUsable scripts results goal depth hit
+    pub usable : IsUsable same scripts results goal depth hit
     pub is : received ≡ record { reply = Answer hit.result; node = hit.node }
     pub takes : TakesStored same step hit old new

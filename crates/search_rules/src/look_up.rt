@@ -45,7 +45,7 @@ impl<'a, D: Delegate> NestedTest<D::Cx> for OverStack<'a, D> {
 
     /// Whether none of the goals is on the stack, and none could be answered by a provisional entry: else the result
     /// might be another one if it were worked out there.
-    fn accepts(&self, nested_goals: &NestedGoals<D::Cx>) -> bool {
+    fn accepts(&self, nested_goals: &NestedGoals<<D::Cx as Cx>::Input>) -> bool {
         if nested_goals.is_empty() {
             return true;
         }
@@ -93,7 +93,7 @@ impl<'a, D: Delegate> OverStack<'a, D> {
 /// Whether one of the goals is on the stack. The shorter of the two is walked. But the goals of a stored result stand
 /// in a list, in which one is looked for as long as they are many: so only the goals of a short stack are looked for
 /// there, and on a longer one each nested goal is looked up.
-fn has_goal_of<X: Cx>(stack: &Stack<X>, nested_goals: &NestedGoals<X>) -> bool
+fn has_goal_of<X: Cx>(stack: &Stack<X>, nested_goals: &NestedGoals<X::Input>) -> bool
     ensures { result ≡ list_any (λ e. is_some (paths_at X.Input.eq nested_goals.now e.input))
         stack.now }
 {

@@ -12,18 +12,18 @@ pub record HasNoDrafts {I R : Type 0} (nodes : List (CacheNode I R)) (drafts : D
   pub none : drafts.stored.items ≡ []
 
 -- each node from this place on that is not gone is reached from a node of which this holds
-abbrev pub LeavesReached : {C I R A T : Type 0} → ℕ → (NodeId → Type 0) → Cache C I R A T → Type 0
+abbrev pub LeavesReached : {C I R T : Type 0} → ℕ → (NodeId → Type 0) → Cache C I R T → Type 0
 LeavesReached first IsRoot cache =
     (at : ℕ) → first ≤ at → ¬ IsGone (slice_get cache.nodes at)
     → (root : NodeId) × IsRoot root × IsReached (graph_nodes_of cache.nodes) root.0 at
 
-module _ {C I R A T : Type 0} (same : I → I → Bool) where
+module _ {C I R T : Type 0} (same : I → I → Bool) where
   -- the node of each stored result was there when the call began, or is noted
-  abbrev pub AreNotedNodes : Cache C I R A T → Drafts → Type 0
+  abbrev pub AreNotedNodes : Cache C I R T → Drafts → Type 0
   AreNotedNodes cache drafts = AreRooted same drafts.first drafts.stored.items cache.results
 
   -- this stays so, of the same call
-  pub record KeepsNoted (old : Cache C I R A T) (before : Drafts)
-      (new : Cache C I R A T) (after : Drafts) : Type 0 where
+  pub record KeepsNoted (old : Cache C I R T) (before : Drafts)
+      (new : Cache C I R T) (after : Drafts) : Type 0 where
     pub first : after.first ≡ before.first
     pub noted_are : AreNotedNodes old before → AreNotedNodes new after

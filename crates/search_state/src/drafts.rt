@@ -50,7 +50,7 @@ impl Drafts {
     {
         self.first = cache.next_node();
         self.stored.clear();
-        self.held_before = cache.held_nodes();
+        self.held_before = cache.nodes_in_memory();
         self.limit = self.held_before.saturating_add(FEW);
     }
 

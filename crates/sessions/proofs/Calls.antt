@@ -21,7 +21,7 @@ paid runs root depth last old before new started r o s h = subst (λ n. IsPaid r
 
 pub call_told : {D C V P F A T : Type 0} (G : DelegateOf D C V P F ℕ Outcome A T) (X : CxOf C ℕ Outcome A T)
     (same : ℕ → ℕ → Bool) (same_result : Outcome → Outcome → Bool)
-    (goal depth : ℕ) (before after : Cache C ℕ Outcome A T) (noop : Bool) (graph left : Graph)
+    (goal depth : ℕ) (before after : Cache C ℕ Outcome T) (noop : Bool) (graph left : Graph)
     (from to started : ℕ) (answer : Answer Outcome) (limits : Bool)
     → noop ≡ true → graph ≡ graph_of depth false → from ≡ 0 → started ≡ to → limits ≡ left.limits_met
     → HasRun G X same same_result (call_on noop goal before graph from answer after left to)

@@ -37,8 +37,8 @@ module _ (p : ℕ → Bool) (n : ℕ) where
       ∙ ap (λ b. filter p (range_with_len 0 n) ++ cond b (n ∷ []) []) is ∙ append-nil (filter p (range_with_len 0 n)))
 
 -- whether a goal is wanted, by its row and what is stored
-pub wanted_at : {X R A T : Type 0} (rules : Table) (rows : List GoalRow) (same : ℕ → ℕ → Bool)
-    (results : Store ℕ (StoredResult X ℕ R A T)) (at : ℕ) (d : GoalRow) (unknown has : Bool)
+pub wanted_at : {R T : Type 0} (rules : Table) (rows : List GoalRow) (same : ℕ → ℕ → Bool)
+    (results : Store ℕ (StoredResult ℕ R T)) (at : ℕ) (d : GoalRow) (unknown has : Bool)
     → rows ≡ rules.goals → at < length rows → unknown ≡ is_row_unknown (get_or rows at d)
     → has ≡ has_result same results at → is_wanted rules same results at ≡ (unknown && has)
 wanted_at rules rows same results at d unknown has are inside is_unknown is_stored =

@@ -82,9 +82,9 @@ module _ {D C V P F A T : Type 0} (G : DelegateOf D C V P F ℕ Outcome A T) (X 
     (same : ℕ → ℕ → Bool) (same_result : Outcome → Outcome → Bool) where
   -- The goal was asked with this depth while nothing was known, and came to this.
   pub record IsAskedAnew (cx : C) (depth goal : ℕ) (came : Result Asked (Fault ℕ Outcome)) : Type 0 where
-    pub before : Cache C ℕ Outcome A T
+    pub before : Cache C ℕ Outcome T
     pub nothing_known : before ≡ record { cx = cx; nodes = []; results = [] }
-    pub after : Cache C ℕ Outcome A T
+    pub after : Cache C ℕ Outcome T
     pub asked : IsAsked G X same same_result before depth goal came after
 
   -- It did, and this is told of it.

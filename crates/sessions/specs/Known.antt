@@ -13,10 +13,10 @@ abbrev pub nodes_of : {L : Type 0} → Session L → List (CacheNode ℕ Outcome
 nodes_of session = session.cache.nodes
 
 -- A result is stored of a goal that asks itself alone. One that was cut off had no depth left, and no other is.
-abbrev pub has_result : {X R A T : Type 0} → (ℕ → ℕ → Bool) → Store ℕ (StoredResult X ℕ R A T) → ℕ → Bool
+abbrev pub has_result : {R T : Type 0} → (ℕ → ℕ → Bool) → Store ℕ (StoredResult ℕ R T) → ℕ → Bool
 has_result same results goal =
     is_some (stored_at same results goal Success) || is_some (stored_at same results goal (WithOverflow 0))
 
 -- the candidates of the goal are not known, and a result of it is stored
-abbrev pub is_wanted : {X R A T : Type 0} → Table → (ℕ → ℕ → Bool) → Store ℕ (StoredResult X ℕ R A T) → ℕ → Bool
+abbrev pub is_wanted : {R T : Type 0} → Table → (ℕ → ℕ → Bool) → Store ℕ (StoredResult ℕ R T) → ℕ → Bool
 is_wanted rules same results goal = is_unknown rules goal && has_result same results goal

@@ -17,8 +17,8 @@ abbrev pub graph_of : (depth : ℕ) → (limits_met : Bool) → Graph
 graph_of depth limits_met = record { root_depth = depth; limits_met = limits_met }
 
 -- a call for the goal over the cache `before`, on this graph, that came to this answer
-abbrev pub call_on : {C A T : Type 0} → (noop : Bool) → ℕ → (before : Cache C ℕ Outcome A T) → Graph
-    → (starts : ℕ) → Answer Outcome → (after : Cache C ℕ Outcome A T) → (left : Graph)
+abbrev pub call_on : {C A T : Type 0} → (noop : Bool) → ℕ → (before : Cache C ℕ Outcome T) → Graph
+    → (starts : ℕ) → Answer Outcome → (after : Cache C ℕ Outcome T) → (left : Graph)
     → (now : ℕ) → Called C ℕ Outcome A T
 call_on noop goal before graph starts answer after left now = record {
   goal = goal;
@@ -33,8 +33,8 @@ module _ {D C V P F A T : Type 0} (G : DelegateOf D C V P F ℕ Outcome A T) (X 
     (same : ℕ → ℕ → Bool) (same_result : Outcome → Outcome → Bool) where
   -- The goal was asked with this depth on a new graph over the cache `before`, with a new builder, and left the cache
   -- `after`. What it came to is what the search promises of such a call.
-  pub record IsAsked (before : Cache C ℕ Outcome A T) (depth goal : ℕ) (came : Result Asked (Fault ℕ Outcome))
-      (after : Cache C ℕ Outcome A T) : Type 0 where
+  pub record IsAsked (before : Cache C ℕ Outcome T) (depth goal : ℕ) (came : Result Asked (Fault ℕ Outcome))
+      (after : Cache C ℕ Outcome T) : Type 0 where
     -- A yes and a no have their graphs, and the goal has none of the other sort.
     pub graph : IfOk came (λ asked. HasGraph (verdicts X) after.nodes goal asked.outcome asked.node)
     pub yes : IfOk came (λ asked. X.is_yes asked.outcome ≡ true → IsProved X after goal asked.node)

@@ -14,7 +14,7 @@ module _ {D C V P F A T : Type 0} (G : DelegateOf D C V P F Goal Outcome A T) (X
     (same : Goal → Goal → Bool) (same_result : Outcome → Outcome → Bool) where
   -- The call was made, and if a reason is told of what it came to, that one may be: of a call that started a frame, as
   -- `is_run` says, or none, and that met a limit or none.
-  pub record HasReason (goal : Goal) (depth : ℕ) (before after : Cache C Goal Outcome A T) (starts later : ℕ)
+  pub record HasReason (goal : Goal) (depth : ℕ) (before after : Cache C Goal Outcome T) (starts later : ℕ)
       (noop is_run : Bool) (told : Came) : Type 0 where
     pub begun : Graph
     pub is_begun : begun ≡ record { root_depth = depth; limits_met = false }

@@ -58,7 +58,7 @@ no_conflict goal stored found fault is (WantsMemory e) = absurd cc
 no_conflict goal stored found fault is (BreaksOrder number e) = absurd cc
 
 module _ {D C V P F A T : Type 0} (G : DelegateOf D C V P F Pair Outcome A T) (X : CxOf C Pair Outcome A T)
-    (same : Pair → Pair → Bool) (types : Types) (cache : Cache C Pair Outcome A T) where
+    (same : Pair → Pair → Bool) (types : Types) (cache : Cache C Pair Outcome T) where
   -- so it is for a delegate that has the scripts and the verdicts of pairs, and a cache that is kept ready
   pub enough : (depth l r : ℕ) (noop : Bool)
       → verdicts X ≡ outcome_verdicts
@@ -92,7 +92,7 @@ module _ {D C V P F A T : Type 0} (G : DelegateOf D C V P F Pair Outcome A T) (X
   }
 
   -- and what such a call leaves is ready again
-  pub stays_ready : (result : Result (Answer Outcome) (Fault Pair Outcome)) (new : Cache C Pair Outcome A T)
+  pub stays_ready : (result : Result (Answer Outcome) (Fault Pair Outcome)) (new : Cache C Pair Outcome T)
       → verdicts X ≡ outcome_verdicts
       → G.script cache.cx ≡ scripts (needs_of (forms_of types)) (questions_of (forms_of types))
       → G.ENABLE_PROVISIONAL_CACHE ≡ true
@@ -130,6 +130,6 @@ module _ {D C V P F A T : Type 0} (G : DelegateOf D C V P F Pair Outcome A T) (X
 
 -- the cache is ready for the same types in other words
 pub ready_for :
-    {C A T : Type 0} (same : Pair → Pair → Bool) (forms others : List Form) (cache : Cache C Pair Outcome A T)
+    {C T : Type 0} (same : Pair → Pair → Bool) (forms others : List Form) (cache : Cache C Pair Outcome T)
     → others ≡ forms → KeepsDeciding same forms cache → KeepsDeciding same others cache
 ready_for same forms others cache are ready = subst (λ fs. KeepsDeciding same fs cache) (sym are) ready

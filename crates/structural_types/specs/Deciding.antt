@@ -10,8 +10,8 @@ use Rattle.type_order.specs.declared.delegate.Pair.{Pair}
 
 -- Each stored answer is yes or no, none met overflow, and the answers of all pairs that may be asked are settled, with
 -- nested pairs that are reached. So two runs of each pair are enough, and the next question is decided, too.
-pub record KeepsDeciding {C A T : Type 0} (same : Pair → Pair → Bool) (forms : List Form)
-    (cache : Cache C Pair Outcome A T) : Type 0 where
+pub record KeepsDeciding {C T : Type 0} (same : Pair → Pair → Bool) (forms : List Form)
+    (cache : Cache C Pair Outcome T) : Type 0 where
   pub definite : AreDefinite outcome_verdicts same cache.results
   pub no_overflow : HaveNoOverflowOf (Contains (askable forms)) same cache.results
   pub settled : AreSettled outcome_verdicts same cache.nodes cache.results (askable forms)
@@ -22,7 +22,7 @@ pub record KeepsDeciding {C A T : Type 0} (same : Pair → Pair → Bool) (forms
 -- out of order. The stored answers stay yes or no, and settled, and those of the goals without overflow.
 pub record EndsDecided {D C V P F I R A T : Type 0} (G : DelegateOf D C V P F I R A T) (X : CxOf C I R A T)
     (same : I → I → Bool) (goals : List I) (cx : C) (result : Result (Answer R) (Fault I R))
-    (new : Cache C I R A T) : Type 0 where
+    (new : Cache C I R T) : Type 0 where
   pub answer : IfOk result (λ answer. IsDefinite (verdicts X) answer.result)
   pub fault : IfErr result IsMemoryOrOrder
   pub definite : AreDefinite (verdicts X) same new.results

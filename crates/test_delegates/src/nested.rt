@@ -12,7 +12,7 @@ impl<X: Cx> NestedTest<X> for Anything {
 
     ghost accepts = { λ test nested. true };
 
-    fn accepts(&self, _nested_goals: &NestedGoals<X>) -> bool {
+    fn accepts(&self, _nested_goals: &NestedGoals<X::Input>) -> bool {
         true
     }
 }
@@ -25,7 +25,7 @@ impl<X: Cx> NestedTest<X> for Leaves {
 
     ghost accepts = { λ test nested. has_none nested };
 
-    fn accepts(&self, nested_goals: &NestedGoals<X>) -> bool {
+    fn accepts(&self, nested_goals: &NestedGoals<X::Input>) -> bool {
         nested_goals.is_empty()
     }
 }

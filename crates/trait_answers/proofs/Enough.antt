@@ -93,7 +93,7 @@ no_conflict goal stored found fault is (WantsMemory e) = absurd cc
 no_conflict goal stored found fault is (BreaksOrder number e) = absurd cc
 
 module _ {D C V P F A T : Type 0} (G : DelegateOf D C V P F ℕ Outcome A T) (X : CxOf C ℕ Outcome A T)
-    (same : ℕ → ℕ → Bool) (table : Table) (cache : Cache C ℕ Outcome A T) where
+    (same : ℕ → ℕ → Bool) (table : Table) (cache : Cache C ℕ Outcome T) where
   -- The only fault of such a call is want of memory: no request of a goal's script is out of order,
   -- and no conflict is left.
   only_memory : (fault : Fault ℕ Outcome) → G.script cache.cx ≡ scripts table →
@@ -114,7 +114,7 @@ module _ {D C V P F A T : Type 0} (G : DelegateOf D C V P F ℕ Outcome A T) (X 
       absurd (true≢false (sym scoped ∙ unscoped goal))
 
 module _ {D C V P F A T : Type 0} (G : DelegateOf D C V P F ℕ Outcome A T) (X : CxOf C ℕ Outcome A T)
-    (same : ℕ → ℕ → Bool) (table : Table) (cache : Cache C ℕ Outcome A T) where
+    (same : ℕ → ℕ → Bool) (table : Table) (cache : Cache C ℕ Outcome T) where
   -- so it is for a delegate that has the scripts and the verdicts of goals, and a cache that is kept ready
   pub enough : (depth goal : ℕ) (noop : Bool) → AreRight table → verdicts X ≡ outcome_verdicts →
       G.script cache.cx ≡ scripts table → 2 ≤ G.FIXPOINT_STEP_LIMIT →
@@ -142,7 +142,7 @@ module _ {D C V P F A T : Type 0} (G : DelegateOf D C V P F ℕ Outcome A T) (X 
   }
 
   -- and what such a call leaves is ready again
-  stays_ready : (result : Result (Answer Outcome) (Fault ℕ Outcome)) (met : Bool) (new : Cache C ℕ Outcome A T) →
+  stays_ready : (result : Result (Answer Outcome) (Fault ℕ Outcome)) (met : Bool) (new : Cache C ℕ Outcome T) →
       verdicts X ≡ outcome_verdicts → G.script cache.cx ≡ scripts table → G.ENABLE_PROVISIONAL_CACHE ≡ true →
       EndsDecided G X same (goals_of table) cache.cx result met new → KeepsDeciding same table new
   stays_ready result met new says script provisional ends = record {
@@ -156,7 +156,7 @@ module _ {D C V P F A T : Type 0} (G : DelegateOf D C V P F ℕ Outcome A T) (X 
   }
 
   -- so its question is told
-  pub ends_told : (answer : Answer Outcome) (met told : Bool) (new : Cache C ℕ Outcome A T) → told ≡ met →
+  pub ends_told : (answer : Answer Outcome) (met told : Bool) (new : Cache C ℕ Outcome T) → told ≡ met →
       verdicts X ≡ outcome_verdicts → G.script cache.cx ≡ scripts table → G.ENABLE_PROVISIONAL_CACHE ≡ true →
       EndsDecided G X same (goals_of table) cache.cx (Ok answer) met new →
       EndsTold same table (Ok (record { outcome = answer.result; limits_met = told })) new
@@ -168,7 +168,7 @@ module _ {D C V P F A T : Type 0} (G : DelegateOf D C V P F ℕ Outcome A T) (X 
   }
 
   -- so a fault of a question is want of memory
-  pub fault_told : (fault : Fault ℕ Outcome) (met : Bool) (new : Cache C ℕ Outcome A T) →
+  pub fault_told : (fault : Fault ℕ Outcome) (met : Bool) (new : Cache C ℕ Outcome T) →
       new.cx ≡ cache.cx → verdicts X ≡ outcome_verdicts → G.script cache.cx ≡ scripts table →
       G.ENABLE_PROVISIONAL_CACHE ≡ true → ((asked : ℕ) → G.scoped cache.cx asked ≡ false) →
       IsCaused G X same new fault → EndsDecided G X same (goals_of table) cache.cx (Err fault) met new →
@@ -197,8 +197,8 @@ is_memory (Protocol number) h = absurd (h (λ e. cc))
 is_memory (Conflict goal stored found) h = absurd (h (λ e. cc))
 is_memory (Validation goal stored found) h = absurd (h (λ e. cc))
 
-module _ {C A T : Type 0} (same : ℕ → ℕ → Bool) (table : Table) (goal : ℕ) where
-  pub told_of : (result : Result Answered (Fault ℕ Outcome)) (new : Cache C ℕ Outcome A T) →
+module _ {C T : Type 0} (same : ℕ → ℕ → Bool) (table : Table) (goal : ℕ) where
+  pub told_of : (result : Result Answered (Fault ℕ Outcome)) (new : Cache C ℕ Outcome T) →
       IfOk result (λ answered. answered.outcome ≡ Yes → IsImplemented table goal) →
       IfOk result (λ answered. answered.outcome ≡ No → IsNotImplemented table goal) →
       ∥ EndsTold same table result new ∥₁ → IfOk result (λ answered. IsTold table goal answered.outcome)
@@ -206,13 +206,13 @@ module _ {C A T : Type 0} (same : ℕ → ℕ → Bool) (table : Table) (goal : 
       told_by table goal answered.outcome (λ e. ∥∥₁_elim ends (λ a b. absurd a) (λ ends. ends.answer e)) is_so is_not
   told_of (Err fault) new is_so is_not ends = tt
 
-  pub unmet_of : (result : Result Answered (Fault ℕ Outcome)) (new : Cache C ℕ Outcome A T) →
+  pub unmet_of : (result : Result Answered (Fault ℕ Outcome)) (new : Cache C ℕ Outcome T) →
       ∥ EndsTold same table result new ∥₁ → IfOk result (λ answered. answered.limits_met ≡ false)
   unmet_of (Ok answered) new ends = is_false answered.limits_met (λ met.
       ∥∥₁_elim ends (λ a b. absurd a) (λ ends. let unmet : answered.limits_met ≡ false = ends.unmet in cc))
   unmet_of (Err fault) new ends = tt
 
-  pub fault_of : (result : Result Answered (Fault ℕ Outcome)) (new : Cache C ℕ Outcome A T) →
+  pub fault_of : (result : Result Answered (Fault ℕ Outcome)) (new : Cache C ℕ Outcome T) →
       ∥ EndsTold same table result new ∥₁ → IfErr result (λ fault. fault ≡ Memory)
   fault_of (Ok answered) new ends = tt
   fault_of (Err fault) new ends =
@@ -220,7 +220,7 @@ module _ {C A T : Type 0} (same : ℕ → ℕ → Bool) (table : Table) (goal : 
 
   -- so the cache stays ready, also for the same table in other words
   pub ready_of : (had now : Bool) (depth : ℕ) (later : Table) (result : Result Answered (Fault ℕ Outcome))
-      (old new : Cache C ℕ Outcome A T) → later ≡ table → now ≡ (had && nat_le (length table.asked) depth) →
+      (old new : Cache C ℕ Outcome T) → later ≡ table → now ≡ (had && nat_le (length table.asked) depth) →
       goal < length table.asked → (CanBeTold table goal depth → KeepsDeciding same table old →
       EndsTold same table result new) →
       ∥ (had ≡ true → AreAllDecided table → KeepsDeciding same table old) ∥₁ →
@@ -233,7 +233,7 @@ module _ {C A T : Type 0} (same : ℕ → ℕ → Bool) (table : Table) (goal : 
       (told (record { all = own; is_goal = within; deep = deep }) (ready b.0 own)).ready)
 
   -- also where nothing was asked
-  pub ready_still : (had now : Bool) (depth : ℕ) (old : Cache C ℕ Outcome A T) →
+  pub ready_still : (had now : Bool) (depth : ℕ) (old : Cache C ℕ Outcome T) →
       now ≡ (had && nat_le (length table.asked) depth) →
       ∥ (had ≡ true → AreAllDecided table → KeepsDeciding same table old) ∥₁ →
       ∥ (now ≡ true → AreAllDecided table → KeepsDeciding same table old) ∥₁

@@ -12,7 +12,7 @@ goals_of table = range_with_len 0 (length table.asked)
 
 -- Each stored answer is yes or no, none of a goal met overflow, and those of all goals are settled, with nested goals
 -- that are reached. So two runs of each goal are enough, and the next question is decided, too.
-pub record KeepsDeciding {C A T : Type 0} (same : ℕ → ℕ → Bool) (table : Table) (cache : Cache C ℕ Outcome A T) :
+pub record KeepsDeciding {C T : Type 0} (same : ℕ → ℕ → Bool) (table : Table) (cache : Cache C ℕ Outcome T) :
     Type 0 where
   pub definite : AreDefinite outcome_verdicts same cache.results
   pub no_overflow : HaveNoOverflowOf (Contains (goals_of table)) same cache.results
@@ -25,7 +25,7 @@ pub record KeepsDeciding {C A T : Type 0} (same : ℕ → ℕ → Bool) (table :
 -- overflow.
 pub record EndsDecided {D C V P F I R A T : Type 0} (G : DelegateOf D C V P F I R A T) (X : CxOf C I R A T)
     (same : I → I → Bool) (goals : List I) (cx : C) (result : Result (Answer R) (Fault I R)) (met : Bool)
-    (new : Cache C I R A T) : Type 0 where
+    (new : Cache C I R T) : Type 0 where
   pub answer : IfOk result (λ answer. IsDefinite (verdicts X) answer.result)
   pub fault : IfErr result IsMemoryOrOrder
   pub unmet : met ≡ false
@@ -36,8 +36,8 @@ pub record EndsDecided {D C V P F I R A T : Type 0} (G : DelegateOf D C V P F I 
 
 -- How a question ends whose goals are all decided: with a yes or a no, or for want of memory; no limit is met, and the
 -- next question is decided, too.
-pub record EndsTold {C A T : Type 0} (same : ℕ → ℕ → Bool) (table : Table)
-    (result : Result Answered (Fault ℕ Outcome)) (new : Cache C ℕ Outcome A T) : Type 0 where
+pub record EndsTold {C T : Type 0} (same : ℕ → ℕ → Bool) (table : Table)
+    (result : Result Answered (Fault ℕ Outcome)) (new : Cache C ℕ Outcome T) : Type 0 where
   pub answer : IfOk result (λ answered. IsDefinite outcome_verdicts answered.outcome)
   pub unmet : IfOk result (λ answered. answered.limits_met ≡ false)
   pub fault : IfErr result (λ fault. fault ≡ Memory)

@@ -69,9 +69,9 @@ module _ {D C V F A T : Type 0} (G : DelegateOf D C V (Recorder Builder Goal Out
     pub whole : OnOk shown.came.came (is_whole same_goal shown.question.1 (entries_of shown.came.recorder) ≡ true)
     -- The recorder is no more a no-op at the end than it was.
     pub records : G.noop shown.came.recorder ≡ G.noop fresh
-    pub before : Cache C Goal Outcome A T
+    pub before : Cache C Goal Outcome T
     pub is_empty : before ≡ record { cx = cx; nodes = []; results = [] }
-    pub after : Cache C Goal Outcome A T
+    pub after : Cache C Goal Outcome T
     pub same_context : after.cx ≡ before.cx
     -- The cache has the answer's proof graph if it is yes, and its refutation graph if it is no.
     pub proof : IfOk shown.came.came

@@ -12,7 +12,7 @@ module _ {D C V P F I R A T : Type 0} (G : DelegateOf D C V P F I R A T)
     (X : CxOf C I R A T) (same : I → I → Bool) where
   -- Two runs of each goal are enough over the cache: no overflow result is stored of the goals, each stored result is
   -- yes or no, and they are settled, and suit provisional entries.
-  pub record TwoRunsAreEnough (goals : List I) (cache : Cache C I R A T) (depth : ℕ)
+  pub record TwoRunsAreEnough (goals : List I) (cache : Cache C I R T) (depth : ℕ)
       (goal : I) (noop : Bool) : Type 0 where
     pub needs : NeedsTwoRuns G X cache.cx goals depth goal noop
     pub no_overflow : HaveNoOverflowOf (Contains goals) same cache.results
@@ -31,7 +31,7 @@ module _ {D C V P F I R A T : Type 0} (G : DelegateOf D C V P F I R A T)
 
   -- Where two runs of each goal are enough for all of the queries, they stay so for each query that they were enough
   -- for; and each answer is yes or no, or its fault is want of memory or a request out of order.
-  pub record TakesTwoRuns (noop : Bool) (queries : List (ℕ × I × PathKind)) (old new : Cache C I R A T)
+  pub record TakesTwoRuns (noop : Bool) (queries : List (ℕ × I × PathKind)) (old new : Cache C I R T)
       (came : List (Result (Answer R) (Fault I R))) : Type 0 where
     pub stays : (goals : List I) (depth : ℕ) (goal : I)
         → All (λ query. TwoRunsAreEnough goals old query.0 query.1 noop) queries
@@ -42,8 +42,8 @@ module _ {D C V P F I R A T : Type 0} (G : DelegateOf D C V P F I R A T)
 
   module _ (cx : C) (noop : Bool) where
     -- an evaluation meets no limit, and leaves the stored results settled, whether it has an answer or a fault
-    pub record EndsSettled (goal : I) (old : Cache C I R A T) (before : Evaluation D C V P F I R A T) (from : ℕ)
-        (result : Result (Answer R) (Fault I R)) (new : Cache C I R A T)
+    pub record EndsSettled (goal : I) (old : Cache C I R T) (before : Evaluation D C V P F I R A T) (from : ℕ)
+        (result : Result (Answer R) (Fault I R)) (new : Cache C I R T)
         (after : Evaluation D C V P F I R A T) : Type 0 where
       pub unmet : (call : Call I) → Begins G X cx same call goal before.root_depth.0 from before.limits_met old.results
           → CallNeedsTwoRuns G X cx call noop → IsSettledStore G X same cx call.goals old.nodes old.results

@@ -25,14 +25,14 @@ module _ {I R : Type 0} (scripts : I → List (Reply R) → Request I R) (same :
       → IsReachedBy scripts goal paths other
 
   -- the goals that are nested in the stored success of each of these are reached so
-  abbrev pub StoredReachNested : {X A T : Type 0} → List I → Store I (StoredResult X I R A T) → Type 0
-  StoredReachNested {X} {A} {T} goals results = (goal : I) (s : StoredResult X I R A T) → Contains goals goal
+  abbrev pub StoredReachNested : {T : Type 0} → List I → Store I (StoredResult I R T) → Type 0
+  StoredReachNested {T} goals results = (goal : I) (s : StoredResult I R T) → Contains goals goal
       → stored_at same results goal Success ≡ Some s → ReachesNested goal s.nested_goals
 
 -- No provisional entry is used, or the goals that are nested in the stored successes of these goals are reached by
 -- questions, as their paths tell.
-abbrev pub StoredSuit : {X I R A T : Type 0} → (enabled : Bool) → (I → List (Reply R) → Request I R) → (I → I → Bool)
-    → List I → Store I (StoredResult X I R A T) → Type 0
+abbrev pub StoredSuit : {I R T : Type 0} → (enabled : Bool) → (I → List (Reply R) → Request I R) → (I → I → Bool)
+    → List I → Store I (StoredResult I R T) → Type 0
 StoredSuit enabled scripts same goals results = (enabled ≡ false) ⊎ StoredReachNested scripts same goals results
 
 -- each question on a closed walk of questions over the goal is of this kind

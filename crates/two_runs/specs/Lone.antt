@@ -4,7 +4,7 @@ use Rattle.std.specs.Prelude.{◌≡◌, ◌≢◌, ◌+◌, ℕ, Bool, All, Con
 use Rattle.std.specs.Option.{IsSomeAnd}
 use Rattle.two_runs.specs.Below.{OpenGoal, Store, stored_at, StoredResult, Success}
 
-module _ {X I R A T : Type 0} (same : I → I → Bool) (results : Store I (StoredResult X I R A T)) where
+module _ {I R T : Type 0} (same : I → I → Bool) (results : Store I (StoredResult I R T)) where
   -- a success of the goal is stored that has no nested goals
   abbrev pub IsLone : I → Type 0
   IsLone goal = IsSomeAnd (stored_at same results goal Success) (λ s. s.nested_goals ≡ [])
@@ -23,11 +23,11 @@ module _ {X I R A T : Type 0} (same : I → I → Bool) (results : Store I (Stor
 
   -- each lone goal of the list requires no more depth than there are other lone goals
   abbrev pub LoneRequire : List I → Type 0
-  LoneRequire goals = (goal : I) (s : StoredResult X I R A T) → Contains goals goal
+  LoneRequire goals = (goal : I) (s : StoredResult I R T) → Contains goals goal
       → stored_at same results goal Success ≡ Some s → s.nested_goals ≡ [] → HasLone goals (s.required_depth + 1)
 
   -- no goal under evaluation is lone; and one without nested goals requires no more depth than there are lone goals
-  abbrev pub NoneIsLone : {F : Type 0} → List I → List (OpenGoal X F I R A T) → Type 0
+  abbrev pub NoneIsLone : {F X A : Type 0} → List I → List (OpenGoal X F I R A T) → Type 0
   NoneIsLone goals [] = Unit {0}
   NoneIsLone goals (s ∷ below) = (IsLone s.0.input → ⊥)
       × (s.0.state.nested_goals ≡ [] → HasLone goals s.0.state.required_depth) × NoneIsLone goals below

@@ -53,11 +53,11 @@ IsOff [] goal = Unit {0}
 IsOff (o ∷ below) goal = (goal ≢ o.goal) × IsOff below goal
 
 -- the goal is nested, or lone
-abbrev pub IsKnown : {X I R A T : Type 0} → (I → I → Bool)
-    → Store I (StoredResult X I R A T) → NestedPaths I → I → Type 0
+abbrev pub IsKnown : {I R T : Type 0} → (I → I → Bool)
+    → Store I (StoredResult I R T) → NestedPaths I → I → Type 0
 IsKnown same results nested goal = IsSome (paths_at same nested goal) ⊎ IsLone same results goal
 
-module _ {X I R A T : Type 0} (same : I → I → Bool) (results : Store I (StoredResult X I R A T))
+module _ {X I R A T : Type 0} (same : I → I → Bool) (results : Store I (StoredResult I R T))
     (entries : Lists I (ProvisionalCacheEntry X I R A T)) where
   -- the goal knows the other one, which is not under evaluation and has no older entry
   pub record IsAside (o : OpenRun I R) (nested : NestedPaths I) (below : List (OpenRun I R)) (goal : I) : Type 0 where
@@ -71,17 +71,17 @@ module _ {X I R A T : Type 0} (same : I → I → Bool) (results : Store I (Stor
     pub off : IsOff below goal
     pub no_older : HasNoOlder same entries o goal
 
-module _ {X I R A T : Type 0} (says : Verdicts R) (same : I → I → Bool) (nodes : List (CacheNode I R))
-    (results : Store I (StoredResult X I R A T)) where
+module _ {I R T : Type 0} (says : Verdicts R) (same : I → I → Bool) (nodes : List (CacheNode I R))
+    (results : Store I (StoredResult I R T)) where
   -- The graph of each success that is stored of these goals has goals alone that are nested in it or lone. And each
   -- lone goal of them requires no more depth than there are other lone goals.
   pub record AreSettled (goals : List I) : Type 0 where
-    pub leads : (goal : I) (s : StoredResult X I R A T) → Contains goals goal
+    pub leads : (goal : I) (s : StoredResult I R T) → Contains goals goal
         → stored_at same results goal Success ≡ Some s → IfSome s.node
         (λ n. LeadsOnly says nodes (IsKnown same results s.nested_goals) (verdict_of says s.result.result) [] n.0)
     pub require : LoneRequire same results goals
 
-  module _ (entries : Lists I (ProvisionalCacheEntry X I R A T)) where
+  module _ {X A : Type 0} (entries : Lists I (ProvisionalCacheEntry X I R A T)) where
     -- What the goal's answers rest on, and what its provisional result rests on, before leaves and stops, are no
     -- goals under evaluation, and have no entries that are older than the goal; and the goal knows them: they are
     -- nested in it or lone.

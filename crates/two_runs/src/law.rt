@@ -51,6 +51,6 @@ pub fn nothing_is_settled<D: Delegate>()
     ensures { (cx : D.Cx) (nodes : List (CacheNode D.Cx.Input D.Cx.Result))
         (goals : List D.Cx.Input)
         (results : Store D.Cx.Input
-        (StoredResult D.Cx D.Cx.Input D.Cx.Result D.Cx.AmbiguityInfo D.Cx.DepNodeIndex)) →
+        (StoredResult D.Cx.Input D.Cx.Result D.Cx.DepNodeIndex)) →
         results ≡ [] → IsSettledStore D.Delegate D.Cx.Cx D.Cx.Input.eq cx goals nodes results }
 {}

@@ -2,12 +2,11 @@
 
 use crate::parts::told::{KINDS, Told};
 use path_kinds::path::{PathKind, PathsToNested};
-use search_context::context::{Cx, NoMemory};
+use search_context::context::NoMemory;
 use search_stack::nested_goals::NestedGoals;
 use std::alloc::Global;
 use std::mem;
 use std::test::Fail;
-use test_delegates::loops::LoopsContext;
 
 /// What is done with the goals below a goal, and with those below a child of it.
 #[derive(Clone, Copy)]
@@ -99,16 +98,16 @@ const ROWS: [(&str, &[Act], &str); 4] = [
 #[test]
 fn nested_goals_are_as_told(rt: HostRuntime) -> Result<(), Fail> {
     for (name, acts, wanted) in ROWS {
-        let told = tell_acts::<LoopsContext>(rt.alloc(), acts).text()?;
+        let told = tell_acts(rt.alloc(), acts).text()?;
         assert_eq!(rt; told.as_str(), wanted, "{name}");
     }
     Ok(())
 }
 
-fn tell_acts<X: Cx<Input = PathKind>>(alloc: Global, acts: &[Act]) -> Told {
+fn tell_acts(alloc: Global, acts: &[Act]) -> Told {
     let mut told = Told::new(alloc);
-    let mut goals = NestedGoals::<X>::new(alloc);
-    let mut child = NestedGoals::<X>::new(alloc);
+    let mut goals = NestedGoals::<PathKind>::new(alloc);
+    let mut child = NestedGoals::<PathKind>::new(alloc);
     for act in acts {
         if carry_out(alloc, &mut goals, &mut child, *act).is_err() {
             told.say("no memory ");
@@ -122,10 +121,10 @@ fn tell_acts<X: Cx<Input = PathKind>>(alloc: Global, acts: &[Act]) -> Told {
     told
 }
 
-fn carry_out<X: Cx<Input = PathKind>>(
+fn carry_out(
     alloc: Global,
-    goals: &mut NestedGoals<X>,
-    child: &mut NestedGoals<X>,
+    goals: &mut NestedGoals<PathKind>,
+    child: &mut NestedGoals<PathKind>,
     act: Act,
 ) -> Result<(), NoMemory> {
     match act {
@@ -147,7 +146,7 @@ fn carry_out<X: Cx<Input = PathKind>>(
 }
 
 /// The word, and then the goals with the paths to them.
-fn tell<X: Cx<Input = PathKind>>(told: &mut Told, word: &str, goals: &NestedGoals<X>) {
+fn tell(told: &mut Told, word: &str, goals: &NestedGoals<PathKind>) {
     told.say(word);
     let mut found = 0usize;
     for goal in KINDS {

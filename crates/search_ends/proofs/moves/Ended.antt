@@ -26,20 +26,20 @@ use Rattle.search_state.specs.declared.evaluation.Evaluation.{Evaluation}
 
 -- a rerun notes nothing
 rerun_noted :
-    {D C V P F I R A T : Type 0} {G : DelegateOf D C V P F I R A T} (same : I → I → Bool) {old new : Cache C I R A T}
+    {D C V P F I R A T : Type 0} {G : DelegateOf D C V P F I R A T} (same : I → I → Bool) {old new : Cache C I R T}
     {before after : Evaluation D C V P F I R A T} {starts later : ℕ}
     → RerunKeeps G old before starts new after later → KeepsNoted same old before.drafts new after.drafts
 rerun_noted {C = C} {I = I} {R = R} {A = A} {T = T} same {old} {new} {before} {after} keeps =
     noted_same same old new before.drafts after.drafts (ap (λ a. a.drafts) keeps.rest)
-    (ap (λ (cache : Cache C I R A T). cache.results) keeps.cache)
+    (ap (λ (cache : Cache C I R T). cache.results) keeps.cache)
 
 module _ {D C V P F I R A T : Type 0} {G : DelegateOf D C V P F I R A T} {X : CxOf C I R A T} {same : I → I → Bool}
-    {same_result : R → R → Bool} {outcome : R} {old : Cache C I R A T}
+    {same_result : R → R → Bool} {outcome : R} {old : Cache C I R T}
     {before : Evaluation D C V P F I R A T} {starts : ℕ} where
   -- ---- where the end leads
 
   pub ended_leads :
-      {result : Result (Next R) (Fault I R)} {new : Cache C I R A T} {after : Evaluation D C V P F I R A T} {later : ℕ}
+      {result : Result (Next R) (Fault I R)} {new : Cache C I R T} {after : Evaluation D C V P F I R A T} {later : ℕ}
       → RunEnds G X same same_result outcome old before starts result new after later
       → IfOk result (λ next. RunLeads G X same same_result outcome old before next new after)
   ended_leads (EndedDone entry run reason result new after comes pop) =
@@ -53,7 +53,7 @@ module _ {D C V P F I R A T : Type 0} {G : DelegateOf D C V P F I R A T} {X : Cx
   ended_leads (NotRunAgain entry run new after later comes keeps) = tt
 
   pub ended_right :
-      {result : Result (Next R) (Fault I R)} {new : Cache C I R A T} {after : Evaluation D C V P F I R A T} {later : ℕ}
+      {result : Result (Next R) (Fault I R)} {new : Cache C I R T} {after : Evaluation D C V P F I R A T} {later : ℕ}
       → RunEnds G X same same_result outcome old before starts result new after later
       → IfOk result (λ next. IsRightNext G X same old.cx before.goals next new after)
   ended_right (EndedDone entry run reason result new after comes pop) =
@@ -71,7 +71,7 @@ module _ {D C V P F I R A T : Type 0} {G : DelegateOf D C V P F I R A T} {X : Cx
   -- ---- what is kept, and where that fails
 
   pub ended_cache :
-      {result : Result (Next R) (Fault I R)} {new : Cache C I R A T} {after : Evaluation D C V P F I R A T} {later : ℕ}
+      {result : Result (Next R) (Fault I R)} {new : Cache C I R T} {after : Evaluation D C V P F I R A T} {later : ℕ}
       → RunEnds G X same same_result outcome old before starts result new after later
       → ChangesCache same before.goals old new
   ended_cache (EndedDone entry run reason result new after comes pop) = pop.cache
@@ -82,7 +82,7 @@ module _ {D C V P F I R A T : Type 0} {G : DelegateOf D C V P F I R A T} {X : Cx
       leaves_results same before.goals old new keeps.cache keeps.kept keeps.earlier
 
   pub ended_stores :
-      {result : Result (Next R) (Fault I R)} {new : Cache C I R A T} {after : Evaluation D C V P F I R A T} {later : ℕ}
+      {result : Result (Next R) (Fault I R)} {new : Cache C I R T} {after : Evaluation D C V P F I R A T} {later : ℕ}
       → RunEnds G X same same_result outcome old before starts result new after later
       → StoresOrFails G X same old before.drafts result new after.drafts
   ended_stores (EndedDone entry run reason result new after comes pop) =
@@ -95,7 +95,7 @@ module _ {D C V P F I R A T : Type 0} {G : DelegateOf D C V P F I R A T} {X : Cx
     noted = rerun_noted same keeps;
     fails = record {
       caused = memory_lasts G X same new after.drafts _ refl;
-      unstored = ap (λ (cache : Cache C I R A T). cache.results) keeps.cache;
+      unstored = ap (λ (cache : Cache C I R T). cache.results) keeps.cache;
     };
   }
 
@@ -116,7 +116,7 @@ module _ {D C V P F I R A T : Type 0} {G : DelegateOf D C V P F I R A T} {X : Cx
           (limited same_result G.initial_kind G.ambiguity G.FIXPOINT_STEP_LIMIT entry.state.provisional_result
           entry.state.usages run.finished_runs outcome (Err AtLimit) comes.ends refl)
 
-      module _ {result : Result (Next R) (Fault I R)} {new : Cache C I R A T} {after : Evaluation D C V P F I R A T}
+      module _ {result : Result (Next R) (Fault I R)} {new : Cache C I R T} {after : Evaluation D C V P F I R A T}
           (pop : PopsOrFails G X same (G.fixpoint_overflow old.cx entry.input) (Some Overflow) old
           (record before { limits_met = true }) result new after) where
         limit_leads : IfOk result (λ next. LeadsTo G X same old.cx call ahead before.goals next new after starts)
@@ -161,7 +161,7 @@ module _ {D C V P F I R A T : Type 0} {G : DelegateOf D C V P F I R A T} {X : Cx
           (unstable same_result G.initial_kind G.ambiguity G.FIXPOINT_STEP_LIMIT entry.state.provisional_result
           entry.state.usages run.finished_runs outcome (Err Again) comes.ends refl)
 
-      module _ {new : Cache C I R A T} {after : Evaluation D C V P F I R A T} {later : ℕ}
+      module _ {new : Cache C I R T} {after : Evaluation D C V P F I R A T} {later : ℕ}
           (keeps : RerunKeeps G old before starts new after later) where
         rerun_leads : RunsAgain G X same outcome old before new after
             → (G.counts ≡ true → CountsOne G.last starts later) → LeadsTo G X same old.cx call ahead before.goals
@@ -174,7 +174,7 @@ module _ {D C V P F I R A T : Type 0} {G : DelegateOf D C V P F I R A T} {X : Cx
                   has_fewer keeps.at_most counted reran.reran h.asked;
               answers =
                   subst (λ results. KeepsAnswers G X old.cx same call before.limits_met results after.provisional)
-                  (sym (ap (λ (cache : Cache C I R A T). cache.results) keeps.cache))
+                  (sym (ap (λ (cache : Cache C I R T). cache.results) keeps.cache))
                   (rerun_keeps G X old.cx call same old.results before.limits_met _ before.provisional
                   after.provisional reran.cleared h.answers);
               remembered = tt;
@@ -188,14 +188,14 @@ module _ {D C V P F I R A T : Type 0} {G : DelegateOf D C V P F I R A T} {X : Cx
               stopped = failed_rerun_stopped G X old.cx call ahead outcome before.goals _ _ _
                   (λ s below is. (has_fewer s below is).1) keeps.at_least keeps.at_most h.asked;
               store = subst (KeepsStore G X old.cx same call before.limits_met)
-                  (sym (ap (λ (cache : Cache C I R A T). cache.results) keeps.cache)) h.answers.store;
+                  (sym (ap (λ (cache : Cache C I R T). cache.results) keeps.cache)) h.answers.store;
             })
 
     -- ---- or is done
 
     module _ {entry : StackEntry C I R A T} {run : Run C F I R A T} {reason : Option (RebaseReason C I R A T)}
         (comes : ComesToEnd G same_result outcome before entry run (Ok reason)) {result : Result (Next R) (Fault I R)}
-        {new : Cache C I R A T} {after : Evaluation D C V P F I R A T}
+        {new : Cache C I R T} {after : Evaluation D C V P F I R A T}
         (pop : PopsOrFails G X same outcome reason old before result new after) where
       done_leads : IfOk result (λ next. LeadsTo G X same old.cx call ahead before.goals next new after starts)
       done_leads =
@@ -232,7 +232,7 @@ module _ {D C V P F I R A T : Type 0} {G : DelegateOf D C V P F I R A T} {X : Cx
           (stopped_by result _ _ (λ fault fails. fails.differs) pop.fails) h.asked)
 
     pub ended_goes_on :
-        {result : Result (Next R) (Fault I R)} {new : Cache C I R A T} {after : Evaluation D C V P F I R A T}
+        {result : Result (Next R) (Fault I R)} {new : Cache C I R T} {after : Evaluation D C V P F I R A T}
         {later : ℕ} → RunEnds G X same same_result outcome old before starts result new after later
         → IfOk result (λ next. LeadsTo G X same old.cx call ahead before.goals next new after later)
     ended_goes_on (EndedDone entry run reason result new after comes pop) = done_leads comes pop
@@ -241,7 +241,7 @@ module _ {D C V P F I R A T : Type 0} {G : DelegateOf D C V P F I R A T} {X : Cx
     ended_goes_on (NotRunAgain entry run new after later comes keeps) = tt
 
     pub ended_stops :
-        {result : Result (Next R) (Fault I R)} {new : Cache C I R A T} {after : Evaluation D C V P F I R A T}
+        {result : Result (Next R) (Fault I R)} {new : Cache C I R T} {after : Evaluation D C V P F I R A T}
         {later : ℕ} → RunEnds G X same same_result outcome old before starts result new after later
         → IfErr result (λ fault. StopsWith G X same old.cx call fault new after later)
     ended_stops (EndedDone entry run reason result new after comes pop) = done_stops comes pop

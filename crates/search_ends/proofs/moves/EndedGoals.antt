@@ -16,8 +16,8 @@ module _ {D C V P F I R A T : Type 0} (G : DelegateOf D C V P F I R A T) (X : Cx
     (same : I → I → Bool) (cx : C) where
   -- the goals after the end of a run
   pub led_from :
-      (same_result : R → R → Bool) (outcome : R) (old : Cache C I R A T) (before : Evaluation D C V P F I R A T)
-      (next : Next R) (new : Cache C I R A T) (after : Evaluation D C V P F I R A T)
+      (same_result : R → R → Bool) (outcome : R) (old : Cache C I R T) (before : Evaluation D C V P F I R A T)
+      (next : Next R) (new : Cache C I R T) (after : Evaluation D C V P F I R A T)
       → RunLeads G X same same_result outcome old before next new after → StayFrom old.nodes before.goals after.goals
   led_from same_result outcome old before next new after (IsDone entry run reason comes pops unmet) =
       stay_left old.nodes outcome before.goals after.goals next pops.left
@@ -27,8 +27,8 @@ module _ {D C V P F I R A T : Type 0} (G : DelegateOf D C V P F I R A T) (X : Cx
 
   -- what becomes of their results
   pub led_fates :
-      (same_result : R → R → Bool) (suits : Fated I R → Type 0) (outcome : R) (old : Cache C I R A T)
-      (before : Evaluation D C V P F I R A T) (next : Next R) (new : Cache C I R A T)
+      (same_result : R → R → Bool) (suits : Fated I R → Type 0) (outcome : R) (old : Cache C I R T)
+      (before : Evaluation D C V P F I R A T) (next : Next R) (new : Cache C I R T)
       (after : Evaluation D C V P F I R A T)
       → RunLeads G X same same_result outcome old before next new after
       → MovesFates same suits (fates_of before.goals) (fates_of after.goals)
@@ -42,8 +42,8 @@ module _ {D C V P F I R A T : Type 0} (G : DelegateOf D C V P F I R A T) (X : Cx
 module _ {D C V P F I R A T : Type 0} {G : DelegateOf D C V P F I R A T}
     {X : CxOf C I R A T} {same : I → I → Bool} where
   pops_scopes :
-      {outcome : R} {reason : Option (RebaseReason C I R A T)} {old : Cache C I R A T}
-      {before : Evaluation D C V P F I R A T} {result : Result (Next R) (Fault I R)} {new : Cache C I R A T}
+      {outcome : R} {reason : Option (RebaseReason C I R A T)} {old : Cache C I R T}
+      {before : Evaluation D C V P F I R A T} {result : Result (Next R) (Fault I R)} {new : Cache C I R T}
       {after : Evaluation D C V P F I R A T}
       → PopsOrFails G X same outcome reason old before result new after
       → HoldScopes (fates_of before.goals) before.scopes
@@ -54,8 +54,8 @@ module _ {D C V P F I R A T : Type 0} {G : DelegateOf D C V P F I R A T}
 
   -- which of them hold scopes
   pub ended_scopes :
-      {same_result : R → R → Bool} {outcome : R} {old : Cache C I R A T} {before : Evaluation D C V P F I R A T}
-      {starts : ℕ} {result : Result (Next R) (Fault I R)} {new : Cache C I R A T}
+      {same_result : R → R → Bool} {outcome : R} {old : Cache C I R T} {before : Evaluation D C V P F I R A T}
+      {starts : ℕ} {result : Result (Next R) (Fault I R)} {new : Cache C I R T}
       {after : Evaluation D C V P F I R A T} {later : ℕ}
       → RunEnds G X same same_result outcome old before starts result new after later
       → HoldScopes (fates_of before.goals) before.scopes

@@ -177,13 +177,13 @@ module _ {X I R A T : Type 0} (says : Verdicts R) (same : R → R → Bool)
 module _ {D C V P F I R A T : Type 0} (G : DelegateOf D C V P F I R A T) (X : CxOf C I R A T) (cx : C)
     (call : Call I) (same : I → I → Bool) where
   -- before the first goal is done there are no entries
-  pub no_entries : (results : Store I (StoredResult C I R A T)) (met : Bool) → KeepsStore G X cx same call met results
+  pub no_entries : (results : Store I (StoredResult I R T)) (met : Bool) → KeepsStore G X cx same call met results
       → KeepsAnswers G X cx same call met results []
   no_entries results met store =
       record { store = store; met_none = λ meets goal. All-nil _; definite = λ decisive unmet goal. All-nil _ }
 
   -- a further run gives up some entries
-  pub rerun_keeps : (results : Store I (StoredResult C I R A T)) (met : Bool)
+  pub rerun_keeps : (results : Store I (StoredResult I R T)) (met : Bool)
       (left : ProvisionalCacheEntry C I R A T → Bool) (old new : Lists I (ProvisionalCacheEntry C I R A T))
       → ((goal : I) → entries_at same new goal ≡ filter left (entries_at same old goal))
       → KeepsAnswers G X cx same call met results old → KeepsAnswers G X cx same call met results new
@@ -210,7 +210,7 @@ module _ {D C V P F I R A T : Type 0} (G : DelegateOf D C V P F I R A T) (X : Cx
   -- a goal that had its most runs was popped, which meets a limit
   pub limited_keeps_answers : (target : Option NodeId) (ahead : ℕ) (done r : R) (starts : ℕ) (met enabled : Bool)
       (reason : Option (RebaseReason C I R A T)) → ((x y : I) → same x y ≡ true → x ≡ y)
-      → (before after : Store I (StoredResult C I R A T)) (goals : List (OpenGoal C F I R A T))
+      → (before after : Store I (StoredResult I R T)) (goals : List (OpenGoal C F I R A T))
       (old new : Lists I (ProvisionalCacheEntry C I R A T)) → MayPutNewest same goals r before after
       → RebasesNewest same enabled (G.propagated cx) (G.fixpoint_overflow cx) reason r target goals old new
       → HasAsked G X cx call ahead (Done done) goals starts met → KeepsAnswers G X cx same call met before old
@@ -252,7 +252,7 @@ module _ {D C V P F I R A T : Type 0} (G : DelegateOf D C V P F I R A T) (X : Cx
 
     -- the newest goal was popped
     pub done_keeps : (target : Option NodeId) → ((x y : I) → same x y ≡ true → x ≡ y)
-        → (before after : Store I (StoredResult C I R A T)) (goals : List (OpenGoal C F I R A T))
+        → (before after : Store I (StoredResult I R T)) (goals : List (OpenGoal C F I R A T))
         (old new : Lists I (ProvisionalCacheEntry C I R A T)) → MayPutNewest same goals done before after
         → RebasesNewest same enabled (G.propagated cx) (G.fixpoint_overflow cx) reason done target goals old new
         → HasAsked G X cx call ahead (Done done) goals starts met → KeepsAnswers G X cx same call met before old

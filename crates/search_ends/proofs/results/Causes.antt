@@ -22,7 +22,7 @@ use Rattle.search_rules.specs.Claims.{ComesTo, OutOfMemory}
 use Rattle.search_rules.specs.Live.{AreLiveResults, IsLiveNode}
 
 module _ {D C V P F I R A T : Type 0} (G : DelegateOf D C V P F I R A T) (X : CxOf C I R A T) (same : I → I → Bool)
-    (cache : Cache C I R A T) (drafts : Drafts) where
+    (cache : Cache C I R T) (drafts : Drafts) where
   -- memory is out
   pub memory_lasts : (fault : Fault I R) → fault ≡ Memory → HasLastingCause G X same cache drafts fault
   memory_lasts fault is =
@@ -56,7 +56,7 @@ module _ {D C V P F I R A T : Type 0} (G : DelegateOf D C V P F I R A T) (X : Cx
 
     -- another result is stored than the goal came to, whose node was noted
     pub storing_lasts : IfSome node (Contains drafts.stored.items)
-        → (place : Place) (o : Option (StoredResult C I R A T)) → stored_at same cache.results goal place ≡ o
+        → (place : Place) (o : Option (StoredResult I R T)) → stored_at same cache.results goal place ≡ o
         → (r : Result (Unit {0}) (Fault I R)) → AnswersStoring equal goal o found r
         → IfErr r (HasLastingCause G X same cache drafts)
     storing_lasts there place o at (Ok u) answers = tt
@@ -86,7 +86,7 @@ module _ {D C V P F I R A T : Type 0} (G : DelegateOf D C V P F I R A T) (X : Cx
 
 -- where nothing changed for an error
 pub lasts_after : {D C V P F I R A T U : Type 0} (G : DelegateOf D C V P F I R A T) (X : CxOf C I R A T)
-    (same : I → I → Bool) (old new : Cache C I R A T) (drafts : Drafts) (r : Result U (Fault I R)) → OnErr r (new ≡ old)
+    (same : I → I → Bool) (old new : Cache C I R T) (drafts : Drafts) (r : Result U (Fault I R)) → OnErr r (new ≡ old)
     → IfErr r (HasLastingCause G X same old drafts) → IfErr r (HasLastingCause G X same new drafts)
 lasts_after G X same old new drafts (Ok u) unchanged h = tt
 lasts_after G X same old new drafts (Err fault) unchanged h =

@@ -22,14 +22,14 @@ if_err_then (Err fault) h = h
 
 -- memory is out, and nothing was stored
 pub memory_stores : {D C V P F I R A T W : Type 0} (G : DelegateOf D C V P F I R A T) (X : CxOf C I R A T)
-    (same : I → I → Bool) (old new : Cache C I R A T) (after : Drafts) (r : Result W (Fault I R))
+    (same : I → I → Bool) (old new : Cache C I R T) (after : Drafts) (r : Result W (Fault I R))
     → IsErrAnd r (λ fault. fault ≡ Memory) → new.results ≡ old.results → IfErr r (StoresNothing G X same old new after)
 memory_stores G X same old new after (Ok w) is unstored = tt
 memory_stores G X same old new after (Err fault) is unstored =
     record { caused = memory_lasts G X same new after fault is; unstored = unstored }
 
 module _ {D C V P F I R A T : Type 0} (G : DelegateOf D C V P F I R A T) (X : CxOf C I R A T) (same : I → I → Bool)
-    (came_to : R) (old new : Cache C I R A T) (after : Drafts) where
+    (came_to : R) (old new : Cache C I R T) (after : Drafts) where
   memory_is : (fault : Fault I R) → fault ≡ Memory → new.results ≡ old.results
       → Fails G X same came_to old new after fault
   memory_is fault is unstored = record {
@@ -58,7 +58,7 @@ module _ {D C V P F I R A T : Type 0} (G : DelegateOf D C V P F I R A T) (X : Cx
       record { stores = record { caused = caused; unstored = unstored }; differs = differs }
 
   -- what was done before stored nothing either
-  pub fails_after : (mid : Cache C I R A T) (answer : R) (fault : Fault I R) → answer ≡ came_to
+  pub fails_after : (mid : Cache C I R T) (answer : R) (fault : Fault I R) → answer ≡ came_to
       → mid.results ≡ old.results → Fails G X same answer mid new after fault
       → Fails G X same came_to old new after fault
   fails_after mid answer fault is before fails = record {
@@ -69,14 +69,14 @@ module _ {D C V P F I R A T : Type 0} (G : DelegateOf D C V P F I R A T) (X : Cx
 
 -- ---- whose fault it is
 
-module _ {X I R A T : Type 0} (same : I → I → Bool)
-    (results : Store I (StoredResult X I R A T)) (goal : I) (place : Place) where
+module _ {I R T : Type 0} (same : I → I → Bool)
+    (results : Store I (StoredResult I R T)) (goal : I) (place : Place) where
   -- memory is out
   pub wants_memory : (fault : Fault I R) → fault ≡ Memory → FailsToStore same results goal place fault
   wants_memory fault is = subst (FailsToStore same results goal place) (sym is) tt
 
   -- storing finds the goal's own result, in its place
-  found_there : (o : Option (StoredResult X I R A T)) → stored_at same results goal place ≡ o
+  found_there : (o : Option (StoredResult I R T)) → stored_at same results goal place ≡ o
       → (equal : R → R → Bool) (found : R) (r : Result (Unit {0}) (Fault I R)) → AnswersStoring equal goal o found r
       → IfErr r (FailsToStore same results goal place)
   found_there None at equal found (Ok u) answers = tt
@@ -87,7 +87,7 @@ module _ {X I R A T : Type 0} (same : I → I → Bool)
           → IfErr r (FailsToStore same results goal place)
       by true is = subst (λ x. IfErr x (FailsToStore same results goal place)) (sym is) tt
       by false is = subst (λ x. IfErr x (FailsToStore same results goal place)) (sym is)
-          (refl, ap (option_map (λ (t : StoredResult X I R A T). t.result.result)) at)
+          (refl, ap (option_map (λ (t : StoredResult I R T). t.result.result)) at)
 
   pub storing_finds : (equal : R → R → Bool) (found : R) (r : Result (Unit {0}) (Fault I R))
       → AnswersStoring equal goal (stored_at same results goal place) found r
@@ -95,7 +95,7 @@ module _ {X I R A T : Type 0} (same : I → I → Bool)
   storing_finds = found_there (stored_at same results goal place) refl
 
 -- the newest goal failed: for want of memory,
-pub newest_wants_memory : {X F I R A T W : Type 0} (same : I → I → Bool) (results : Store I (StoredResult X I R A T))
+pub newest_wants_memory : {X F I R A T W : Type 0} (same : I → I → Bool) (results : Store I (StoredResult I R T))
     {goals below : List (OpenGoal X F I R A T)} {s : OpenGoal X F I R A T} (r : Result W (Fault I R))
     → goals ≡ s ∷ below → IsErrAnd r (λ fault. fault ≡ Memory) → IfErr r (NewestFailsToStore same results goals)
 newest_wants_memory same results {s = s} r was is = subst (λ l. IfErr r (NewestFailsToStore same results l)) (sym was)
@@ -103,7 +103,7 @@ newest_wants_memory same results {s = s} r was is = subst (λ l. IfErr r (Newest
 
 -- or as its answer was stored
 pub newest_fails_to_store : {X F I R A T : Type 0} (same : I → I → Bool)
-    {before results : Store I (StoredResult X I R A T)} {goals below : List (OpenGoal X F I R A T)}
+    {before results : Store I (StoredResult I R T)} {goals below : List (OpenGoal X F I R A T)}
     {s : OpenGoal X F I R A T} {goal : I} {place : Place} (fault : Fault I R)
     → goals ≡ s ∷ below → results ≡ before → goal ≡ s.0.input → place ≡ place_of_item s
     → FailsToStore same results goal place fault → NewestFailsToStore same before goals fault

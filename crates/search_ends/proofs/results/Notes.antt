@@ -11,21 +11,21 @@ use Rattle.search_state.proofs.nodes.Noting.{noted_more, noted_same, noted_stori
 use Rattle.search_state.specs.Drafts.{noted}
 use Rattle.search_state.specs.declared.drafts.Drafts.{Drafts}
 
-module _ {B C I R A T : Type 0} (says : Verdicts R) (same : I → I → Bool) (result : Result B (Fault I R)) where
+module _ {B C I R T : Type 0} (says : Verdicts R) (same : I → I → Bool) (result : Result B (Fault I R)) where
   -- the drafts stay, and so do stored results
-  pub notes_same : (old new : Cache C I R A T) (drafts : Drafts) → new.results ≡ old.results
+  pub notes_same : (old new : Cache C I R T) (drafts : Drafts) → new.results ≡ old.results
       → Notes says same old drafts result new drafts
   notes_same old new drafts results =
       record { keeps = noted_same same old new drafts drafts refl results; more = NotesNone refl }
 
   -- no node is noted
-  pub notes_none : (cache : Cache C I R A T) (before after : Drafts) → after.first ≡ before.first
+  pub notes_none : (cache : Cache C I R T) (before after : Drafts) → after.first ≡ before.first
       → after.stored.items ≡ before.stored.items → Notes says same cache before result cache after
   notes_none cache before after first items =
       record { keeps = noted_more same cache before after first None items; more = NotesNone items }
 
   -- nothing was stored before
-  pub notes_after : (old mid new : Cache C I R A T) (before after : Drafts) → mid.results ≡ old.results
+  pub notes_after : (old mid new : Cache C I R T) (before after : Drafts) → mid.results ≡ old.results
       → Notes says same mid before result new after → Notes says same old before result new after
   notes_after old mid new before after results h = record {
     keeps =
@@ -34,7 +34,7 @@ module _ {B C I R A T : Type 0} (says : Verdicts R) (same : I → I → Bool) (r
   }
 
 -- the same of another answer, and of the same fault
-pub notes_ok : {B E C I R A T : Type 0} (says : Verdicts R) (same : I → I → Bool) (old new : Cache C I R A T)
+pub notes_ok : {B E C I R T : Type 0} (says : Verdicts R) (same : I → I → Bool) (old new : Cache C I R T)
     (before after : Drafts) (first : B) (next : E)
     → Notes says same old before (Ok first) new after → Notes says same old before (Ok next) new after
 notes_ok says same old new before after first next h = record { keeps = h.keeps; more = as_ok h.more }
@@ -44,7 +44,7 @@ notes_ok says same old new before after first next h = record { keeps = h.keeps;
     as_ok (NotesNone is) = NotesNone is
     as_ok (NotesOne goal r node is graph stored) = NotesOne goal r node is graph stored
 
-pub notes_err : {B E C I R A T : Type 0} (says : Verdicts R) (same : I → I → Bool) (old new : Cache C I R A T)
+pub notes_err : {B E C I R T : Type 0} (says : Verdicts R) (same : I → I → Bool) (old new : Cache C I R T)
     (before after : Drafts) (fault : Fault I R) (result : Result E (Fault I R)) → IsErrAnd result (λ e. e ≡ fault)
     → Notes {B = B} says same old before (Err fault) new after → Notes says same old before result new after
 notes_err says same old new before after fault (Ok answer) is h = absurd is
@@ -68,7 +68,7 @@ notes_err {B} {E} {I = I} {R = R} says same old new before after fault (Err e) i
 
 -- memory was out, and the node is forgotten
 pub notes_unstored :
-    {C I R A T : Type 0} (says : Verdicts R) (same : I → I → Bool) (old new : Cache C I R A T) (before after : Drafts)
+    {C I R T : Type 0} (says : Verdicts R) (same : I → I → Bool) (old new : Cache C I R T) (before after : Drafts)
     → after.first ≡ before.first → after.stored.items ≡ before.stored.items → (result : Result (Unit {0}) (Fault I R))
     → result ≡ Err Memory → OnErr result (new ≡ old) → Notes says same old before result new after
 notes_unstored says same old new before after first items (Ok u) is err = absurd cc
@@ -83,15 +83,15 @@ never_memory (Ok u) other = tt
 never_memory (Err fault) other = λ is. let one : fault ≡ Memory = cc in other one
 
 -- a result was stored, or another one is
-module _ {C I R A T : Type 0} (says : Verdicts R) (same : I → I → Bool) (old new : Cache C I R A T)
+module _ {C I R T : Type 0} (says : Verdicts R) (same : I → I → Bool) (old new : Cache C I R T)
     (by_value : (x y : I) → same x y ≡ true → x ≡ y) (goal : I) (place : Place)
-    (stored : StoredResult C I R A T) (equal : R → R → Bool) where
-  told_by : (o : Option (StoredResult C I R A T)) (result : Result (Unit {0}) (Fault I R))
+    (stored : StoredResult I R T) (equal : R → R → Bool) where
+  told_by : (o : Option (StoredResult I R T)) (result : Result (Unit {0}) (Fault I R))
       → AnswersStoring equal goal o stored.result.result result
       → OnOk result (Puts same old.results new.results goal place stored) → OnErr result (result ≡ Err Memory → ⊥)
       → IsStoredOrTold same new.results goal stored.result.result result
   told_by None (Ok u) answers puts other =
-      (place, ap (option_map (λ (s : StoredResult C I R A T). s.result.result)) puts.here)
+      (place, ap (option_map (λ (s : StoredResult I R T). s.result.result)) puts.here)
   told_by None (Err fault) answers puts other = absurd (other (ap Err answers))
   told_by (Some s) result answers puts other = by (equal s.result.result stored.result.result) answers
     where
@@ -100,7 +100,7 @@ module _ {C I R A T : Type 0} (says : Verdicts R) (same : I → I → Bool) (old
       by true is =
           subst (λ r. OnOk r (Puts same old.results new.results goal place stored)
           → IsStoredOrTold same new.results goal stored.result.result r) (sym is)
-          (λ put. (place, ap (option_map (λ (t : StoredResult C I R A T). t.result.result)) put.here)) puts
+          (λ put. (place, ap (option_map (λ (t : StoredResult I R T). t.result.result)) put.here)) puts
       by false is = subst (IsStoredOrTold same new.results goal stored.result.result) (sym is) (refl, refl)
 
   pub notes_stored :

@@ -28,7 +28,7 @@ none_below [] all = refl
 none_below (head ∷ heads) all =
     let less = All-head (λ head. head.0.0 < 0) head heads all in absurd (omega (arith, less))
 
-module _ {X I R A T : Type 0} (depth : ℕ) (s : StoredResult X I R A T) where
+module _ {I R T : Type 0} (depth : ℕ) (s : StoredResult I R T) where
   used_at : (b : Bool) → b ≡ true → (rest : List (Hit I R T))
       → IsSomeAnd (first_accepted (λ _. true) ((if b then hit_at s.required_depth false s ∷ [] else []) ++ rest))
       (λ hit. (hit.result ≡ s.result.result) × (hit.node ≡ s.node))
@@ -36,7 +36,7 @@ module _ {X I R A T : Type 0} (depth : ℕ) (s : StoredResult X I R A T) where
   used_at false fits rest = absurd cc
 
   -- a success is used wherever its depth suffices
-  success_is_used : (same : I → I → Bool) (results : Store I (StoredResult X I R A T)) (goal : I)
+  success_is_used : (same : I → I → Bool) (results : Store I (StoredResult I R T)) (goal : I)
       → stored_at same results goal Success ≡ Some s → s.required_depth ≤ depth
       → IsRemembered same results goal depth (record { result = s.result.result; node = s.node })
   success_is_used same results goal at within =
@@ -65,7 +65,7 @@ module _ {X F I R A T : Type 0} where
 
 module _ {D C V P F I R A T : Type 0} (G : DelegateOf D C V P F I R A T) (X : CxOf C I R A T) (cx : C) (call : Call I)
     (same : I → I → Bool) (token : I → T) (ahead : ℕ) (done r : R) (starts : ℕ) (met : Bool)
-    (results : Store I (StoredResult C I R A T)) where
+    (results : Store I (StoredResult I R T)) where
   only_remembered : (s : OpenGoal C F I R A T) → HaveTallies (runs_of (s ∷ []))
       → HasAsked G X cx call ahead (Done done) (s ∷ []) starts met → (next : Next R)
       → IsNewestStored same token (s ∷ []) r (node_given next) results

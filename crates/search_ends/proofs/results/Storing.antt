@@ -49,7 +49,7 @@ has_heads heads head is none =
 
 module _ {D C V P F I R A T : Type 0} (G : DelegateOf D C V P F I R A T) (X : CxOf C I R A T) (same : I → I → Bool)
     (by_value : (x y : I) → same x y ≡ true → x ≡ y) (step : PathKind) (goal : I) (answer : EvaluationResult C I R A T)
-    (fate : Fate R) (old new : Evaluation D C V P F I R A T) (cache : Cache C I R A T) (head : StackDepth)
+    (fate : Fate R) (old new : Evaluation D C V P F I R A T) (cache : Cache C I R T) (head : StackDepth)
     (rests : Some head ≡ option_map (λ e. e.0) (highest answer.heads)) where
   -- an answer that rests on goals is a provisional entry,
   pub stores_entry : G.ENABLE_PROVISIONAL_CACHE ≡ true → AppendsEntry same old.provisional new.provisional goal
@@ -82,7 +82,7 @@ module _ {D C V P F I R A T : Type 0} (G : DelegateOf D C V P F I R A T) (X : Cx
 -- an answer without heads: nothing is stored of one that is compared, and it has no entry
 module _ {D C V P F I R A T : Type 0} (G : DelegateOf D C V P F I R A T) (X : CxOf C I R A T) (same : I → I → Bool)
     (step : PathKind) (goal : I) (answer : EvaluationResult C I R A T) (fate : Fate R)
-    (evaluation : Evaluation D C V P F I R A T) (cache : Cache C I R A T) where
+    (evaluation : Evaluation D C V P F I R A T) (cache : Cache C I R T) where
   no_entry : (stack : List (StackEntry C I R A T)) → highest answer.heads ≡ None → (b : Bool)
       → entries_for stack step answer ≡ [] → (if b then entries_for stack step answer else []) ≡ []
   no_entry stack none true is = is
@@ -130,7 +130,7 @@ equal_results (Err e) memory found stored equal differs = absurd (differs equal)
 
 -- nothing is stored
 pub puts_nothing : {C I R A T : Type 0} (same : I → I → Bool) (goal : I) (answer : EvaluationResult C I R A T)
-    (fate : Fate R) (cache : Cache C I R A T) → PutsAnswer same goal answer fate cache cache
+    (fate : Fate R) (cache : Cache C I R T) → PutsAnswer same goal answer fate cache cache
 puts_nothing same goal answer fate cache = record {
   cache = record { rest = refl; kept = KeepsResults-same same cache.results cache.results refl };
   stored = NotStored refl;
@@ -139,7 +139,7 @@ puts_nothing same goal answer fate cache = record {
 
 -- where its answer is to be stored, that was, or nothing was
 pub puts_for_good : {C I R A T : Type 0} (same : I → I → Bool) (goal : I) (answer : EvaluationResult C I R A T)
-    (old new : Cache C I R A T) → ChangesResults same old new → StoresAnswer same old.results new.results goal answer
+    (old new : Cache C I R T) → ChangesResults same old new → StoresAnswer same old.results new.results goal answer
     → PutsAnswer same goal answer becomes.Stored old new
 puts_for_good same goal answer old new cache stored = record {
   cache = cache;

@@ -53,12 +53,12 @@ not_looked_for looks_up in_scope found unlooked = ap (λ up. fate_for up in_scop
 
 module _ {D C V P F I R A T : Type 0} {G : DelegateOf D C V P F I R A T} {X : CxOf C I R A T} {same : I → I → Bool}
     {same_result : R → R → Bool} {noop looks_up : Bool} (laws : AreLaws G X same same_result) {kind : PathKind}
-    {goal : I} {old : Cache C I R A T} {e : Evaluation D C V P F I R A T} {starts : ℕ}
+    {goal : I} {old : Cache C I R T} {e : Evaluation D C V P F I R A T} {starts : ℕ}
     (outset : IsAtOutset old e) (are_runs : AreRuns (verdicts X) (G.script old.cx) old.nodes)
     (sound : AreSoundResults same (verdicts X) (G.script old.cx) old.nodes old.results) where
   -- the stored result, or what the goal is worked out to, ends the call
   pub evaluated_evaluates :
-      {result : Result (Answer R) (Fault I R)} {new : Cache C I R A T} {after : Evaluation D C V P F I R A T}
+      {result : Result (Answer R) (Fault I R)} {new : Cache C I R T} {after : Evaluation D C V P F I R A T}
       {later : ℕ} → Evaluated G X same same_result noop looks_up kind goal old e starts result new after later
       → Evaluates G X same old.cx ((looks_up ≡ true) × (G.scoped old.cx goal ≡ false))
       (IsOfStored looks_up (G.scoped old.cx goal) (found_in same old goal e.root_depth.0))
@@ -98,7 +98,7 @@ module _ {D C V P F I R A T : Type 0} {G : DelegateOf D C V P F I R A T} {X : Cx
 
   -- the answer has its graph, or the fault its cause
   pub evaluated_is_grounded :
-      {result : Result (Answer R) (Fault I R)} {new : Cache C I R A T} {after : Evaluation D C V P F I R A T}
+      {result : Result (Answer R) (Fault I R)} {new : Cache C I R T} {after : Evaluation D C V P F I R A T}
       {later : ℕ} → Evaluated G X same same_result noop looks_up kind goal old e starts result new after later
       → IsGrounded G X same goal new result
   evaluated_is_grounded (WasStored hit found usable) = record {
@@ -112,7 +112,7 @@ module _ {D C V P F I R A T : Type 0} {G : DelegateOf D C V P F I R A T} {X : Cx
       (works_out laws outset are_runs sound fated result ran).grounded
 
   pub evaluated_keeps :
-      {result : Result (Answer R) (Fault I R)} {new : Cache C I R A T} {after : Evaluation D C V P F I R A T}
+      {result : Result (Answer R) (Fault I R)} {new : Cache C I R T} {after : Evaluation D C V P F I R A T}
       {later : ℕ} → Evaluated G X same same_result noop looks_up kind goal old e starts result new after later
       → KeepsCache same e.goals old new
   evaluated_keeps (WasStored hit found usable) = cache_stays same e.goals old
@@ -121,7 +121,7 @@ module _ {D C V P F I R A T : Type 0} {G : DelegateOf D C V P F I R A T} {X : Cx
 
   -- a builder that records leaves the stored results as they were,
   pub evaluated_recorded :
-      {result : Result (Answer R) (Fault I R)} {new : Cache C I R A T} {after : Evaluation D C V P F I R A T}
+      {result : Result (Answer R) (Fault I R)} {new : Cache C I R T} {after : Evaluation D C V P F I R A T}
       {later : ℕ} → Evaluated G X same same_result noop looks_up kind goal old e starts result new after later
       → noop ≡ false → new.results ≡ old.results
   evaluated_recorded (WasStored hit found usable) = λ records. refl
@@ -130,7 +130,7 @@ module _ {D C V P F I R A T : Type 0} {G : DelegateOf D C V P F I R A T} {X : Cx
 
   -- and a goal that is not looked for leaves its own
   pub evaluated_spares :
-      {result : Result (Answer R) (Fault I R)} {new : Cache C I R A T} {after : Evaluation D C V P F I R A T}
+      {result : Result (Answer R) (Fault I R)} {new : Cache C I R T} {after : Evaluation D C V P F I R A T}
       {later : ℕ} → Evaluated G X same same_result noop looks_up kind goal old e starts result new after later
       → looks_up ≡ false → (place : Place)
       → stored_at same new.results goal place ≡ stored_at same old.results goal place
@@ -140,8 +140,8 @@ module _ {D C V P F I R A T : Type 0} {G : DelegateOf D C V P F I R A T} {X : Cx
       (not_looked_for looks_up (G.scoped old.cx goal) (found_in same old goal e.root_depth.0) unlooked)
 
 -- nothing changes where the stored result is told
-pub record IsTold {D C V P F I R A T : Type 0} (hit : Hit I R T) (old : Cache C I R A T)
-    (e : Evaluation D C V P F I R A T) (starts : ℕ) (result : Result (Answer R) (Fault I R)) (new : Cache C I R A T)
+pub record IsTold {D C V P F I R A T : Type 0} (hit : Hit I R T) (old : Cache C I R T)
+    (e : Evaluation D C V P F I R A T) (starts : ℕ) (result : Result (Answer R) (Fault I R)) (new : Cache C I R T)
     (after : Evaluation D C V P F I R A T) (later : ℕ) : Type 0 where
   pub told : result ≡ Ok (record { result = hit.result; node = hit.node })
   pub same_starts : later ≡ starts
@@ -149,11 +149,11 @@ pub record IsTold {D C V P F I R A T : Type 0} (hit : Hit I R T) (old : Cache C 
   pub same_cache : new ≡ old
 
 module _ {D C V P F I R A T : Type 0} {G : DelegateOf D C V P F I R A T} {X : CxOf C I R A T} {same : I → I → Bool}
-    {same_result : R → R → Bool} {noop looks_up : Bool} {kind : PathKind} {goal : I} {old : Cache C I R A T}
+    {same_result : R → R → Bool} {noop looks_up : Bool} {kind : PathKind} {goal : I} {old : Cache C I R T}
     {e : Evaluation D C V P F I R A T} {starts : ℕ} where
   -- a stored result that is looked for in no scope is told
   pub evaluated_tells :
-      {result : Result (Answer R) (Fault I R)} {new : Cache C I R A T} {after : Evaluation D C V P F I R A T}
+      {result : Result (Answer R) (Fault I R)} {new : Cache C I R T} {after : Evaluation D C V P F I R A T}
       {later : ℕ} → Evaluated G X same same_result noop looks_up kind goal old e starts result new after later
       → looks_up ≡ true → G.scoped old.cx goal ≡ false
       → IfSome (found_in same old goal e.root_depth.0) (λ hit. IsTold hit old e starts result new after later)

@@ -61,18 +61,18 @@ use Rattle.search_state.specs.declared.evaluation.Evaluation.{Evaluation}
 
 -- ---- what is stored
 
-module _ {X I R A T : Type 0} (says : Verdicts R) (same : I → I → Bool) where
-  stores_nothing : (old new : Store I (StoredResult X I R A T)) → new ≡ old → StoresDefinite says same old new
+module _ {I R T : Type 0} (says : Verdicts R) (same : I → I → Bool) where
+  stores_nothing : (old new : Store I (StoredResult I R T)) → new ≡ old → StoresDefinite says same old new
   stores_nothing old new is = λ goal place s there.
-      inr (ap (option_map (λ (t : StoredResult X I R A T). t.result.result))
+      inr (ap (option_map (λ (t : StoredResult I R T). t.result.result))
       (ap (λ results. stored_at same results goal place) (sym is) ∙ there))
 
-  stores_then : (old mid new : Store I (StoredResult X I R A T)) → StoresDefinite says same old mid
+  stores_then : (old mid new : Store I (StoredResult I R T)) → StoresDefinite says same old mid
       → StoresDefinite says same mid new → StoresDefinite says same old new
   stores_then old mid new before after = λ goal place s there. elim (after goal place s there) [
     | inl definite ↦ inl definite
     | inr was ↦
-        let found = mapped_some (λ (t : StoredResult X I R A T). t.result.result)
+        let found = mapped_some (λ (t : StoredResult I R T). t.result.result)
         (stored_at same mid goal place) s.result.result was in
         elim (before goal place found.0 found.1) [
           | inl definite ↦ inl (subst (IsDefinite says) found.2 definite)
@@ -81,7 +81,7 @@ module _ {X I R A T : Type 0} (says : Verdicts R) (same : I → I → Bool) wher
   ]
 
   stores_one : ((x y : I) → same x y ≡ true → x ≡ y)
-      → (old new : Store I (StoredResult X I R A T)) (goal : I) (place : Place) (required : ℕ) (r : R)
+      → (old new : Store I (StoredResult I R T)) (goal : I) (place : Place) (required : ℕ) (r : R)
       → IsDefinite says r → MayPut same old new goal place required r → StoresDefinite says same old new
   stores_one by_value old new goal place required r definite (Same is) = stores_nothing old new is
   stores_one by_value old new goal place required r definite (WithResult s result depth puts) =
@@ -90,19 +90,19 @@ module _ {X I R A T : Type 0} (says : Verdicts R) (same : I → I → Bool) wher
             let stored : Some s ≡ Some t = sym puts.here ∙ ap₂ (stored_at same new) w.0 w.1 ∙ there in
             let one : s ≡ t = cc in
             inl (subst (IsDefinite says)
-            (sym result ∙ ap (λ (u : StoredResult X I R A T). u.result.result) one) definite)
+            (sym result ∙ ap (λ (u : StoredResult I R T). u.result.result) one) definite)
         | inr unchanged ↦
-            inr (ap (option_map (λ (u : StoredResult X I R A T). u.result.result)) (sym unchanged ∙ there))
+            inr (ap (option_map (λ (u : StoredResult I R T). u.result.result)) (sym unchanged ∙ there))
       ]
 
   -- so what was stored of a reached goal is yes or no still
-  still_definite : (scripts : I → List (Reply R) → Request I R) (top : I) (old new : Store I (StoredResult X I R A T))
+  still_definite : (scripts : I → List (Reply R) → Request I R) (top : I) (old new : Store I (StoredResult I R T))
       → StoresDefinite says same old new → AreDefiniteFrom says scripts top same old
       → AreDefiniteFrom says scripts top same new
   still_definite scripts top old new stores all = λ goal reached place s there. elim (stores goal place s there) [
     | inl definite ↦ definite
     | inr was ↦
-        let found = mapped_some (λ (t : StoredResult X I R A T). t.result.result)
+        let found = mapped_some (λ (t : StoredResult I R T). t.result.result)
         (stored_at same old goal place) s.result.result was in
         subst (IsDefinite says) found.2 (all goal reached place found.0 found.1)
   ]
@@ -152,7 +152,7 @@ module _ {D C V P F I R A T : Type 0} (G : DelegateOf D C V P F I R A T)
   DecidedNext (Ok (Finished answer)) e = IsDefinite (verdicts X) answer.result
   DecidedNext (Err fault) e = IfDiffers fault (IsDefinite (verdicts X))
 
-  record LeadsDecided (result : Result (Next R) (Fault I R)) (old new : Cache C I R A T)
+  record LeadsDecided (result : Result (Next R) (Fault I R)) (old new : Cache C I R T)
       (after : Evaluation D C V P F I R A T) : Type 0 where
     next : DecidedNext result after
     stores : StoresDefinite (verdicts X) same old.results new.results
@@ -168,11 +168,11 @@ module _ {D C V P F I R A T : Type 0} (G : DelegateOf D C V P F I R A T)
   ended_if (Err fault) h = (tt, h)
 
   -- letting nodes go changes no stored result
-  lets_go_stores : (old : Store I (StoredResult C I R A T)) (mid new : Cache C I R A T)
+  lets_go_stores : (old : Store I (StoredResult I R T)) (mid new : Cache C I R T)
       → new ≡ record mid { nodes = new.nodes } → StoresDefinite (verdicts X) same old mid.results
       → StoresDefinite (verdicts X) same old new.results
   lets_go_stores old mid new rest stores =
-      subst (StoresDefinite (verdicts X) same old) (ap (λ (c : Cache C I R A T). c.results) (sym rest)) stores
+      subst (StoresDefinite (verdicts X) same old) (ap (λ (c : Cache C I R T). c.results) (sym rest)) stores
 
   -- but for the drafts, the evaluation is the same
   next_drafted : (result : Result (Next R) (Fault I R)) (e after : Evaluation D C V P F I R A T)
@@ -189,12 +189,12 @@ module _ {D C V P F I R A T : Type 0} (G : DelegateOf D C V P F I R A T)
   -- a question
   module _ (initial_sort : (cx : C) (cycle : PathKind) (asked : I)
       → IsCycleResult X.is_yes X.is_no cycle (G.initial_result cx cycle asked)) (call : Call I) (kind : PathKind)
-      (goal : I) {old : Cache C I R A T} {e : Evaluation D C V P F I R A T} {starts : ℕ}
+      (goal : I) {old : Cache C I R T} {e : Evaluation D C V P F I R A T} {starts : ℕ}
       (decided : IsDecidedKind kind) (all : AllDecided (verdicts X) e.goals)
       (entries : EntriesDefinite (verdicts X) same e.provisional)
-      (stored : (place : Place) (s : StoredResult C I R A T) → stored_at same old.results goal place ≡ Some s
+      (stored : (place : Place) (s : StoredResult I R T) → stored_at same old.results goal place ≡ Some s
       → IsDefinite (verdicts X) s.result.result) where
-    asking_decides : {noop : Bool} {given : Received R} {new : Cache C I R A T} {after : Evaluation D C V P F I R A T}
+    asking_decides : {noop : Bool} {given : Received R} {new : Cache C I R T} {after : Evaluation D C V P F I R A T}
         {later : ℕ} → AskingLeadsTo G X same old.cx kind goal noop old e starts given new after later
         → after.limits_met ≡ false → HaveDecided given after
     asking_decides (Refused goals none noted) unmet = absurd cc
@@ -249,10 +249,10 @@ module _ {D C V P F I R A T : Type 0} (G : DelegateOf D C V P F I R A T)
   -- the end of a run
   module _ (by_value : (x y : I) → same x y ≡ true → x ≡ y)
       (ambiguous : (r : R) (info : A) → G.ambiguity r ≡ Some info → IsNeither X.is_yes X.is_no r) (call : Call I)
-      (outcome : R) (old : Cache C I R A T) (e : Evaluation D C V P F I R A T)
+      (outcome : R) (old : Cache C I R T) (e : Evaluation D C V P F I R A T)
       (definite : IsDefinite (verdicts X) outcome) (all : AllDecided (verdicts X) e.goals)
       (entries : EntriesDefinite (verdicts X) same e.provisional) where
-    newest_stores : (goals : List (OpenGoal C F I R A T)) (results : Store I (StoredResult C I R A T))
+    newest_stores : (goals : List (OpenGoal C F I R A T)) (results : Store I (StoredResult I R T))
         → MayPutNewest same goals outcome old.results results → StoresDefinite (verdicts X) same old.results results
     newest_stores [] results puts = absurd puts
     newest_stores (s ∷ below) results puts = stores_one (verdicts X) same by_value old.results results s.0.input
@@ -291,7 +291,7 @@ module _ {D C V P F I R A T : Type 0} (G : DelegateOf D C V P F I R A T)
           s below e.provisional after.provisional definite rebases.0 entries
 
       popped_decided :
-          (result : Result (Next R) (Fault I R)) (new : Cache C I R A T) (after : Evaluation D C V P F I R A T)
+          (result : Result (Next R) (Fault I R)) (new : Cache C I R T) (after : Evaluation D C V P F I R A T)
           → IfOk result (λ next. Pops G X same outcome reason old e next new after)
           → IfErr result (λ fault. IfDiffers fault (λ found. found ≡ outcome)) → DecidedNext result after
       popped_decided (Ok next) new after pops differs =
@@ -300,7 +300,7 @@ module _ {D C V P F I R A T : Type 0} (G : DelegateOf D C V P F I R A T)
           (IsDefinite (verdicts X)) (λ found is. subst (IsDefinite (verdicts X)) (sym is) definite) differs
 
     end_decides : {same_result : R → R → Bool} {starts : ℕ} {result : Result (Next R) (Fault I R)}
-        {new : Cache C I R A T} {after : Evaluation D C V P F I R A T} {later : ℕ}
+        {new : Cache C I R T} {after : Evaluation D C V P F I R A T} {later : ℕ}
         → RunEnds G X same same_result outcome old e starts result new after later
         → after.limits_met ≡ false → LeadsDecided result old new after
     end_decides {same_result = same_result} (EndedDone entry run reason result new after comes pop) unmet = record {
@@ -330,7 +330,7 @@ module _ {D C V P F I R A T : Type 0} (G : DelegateOf D C V P F I R A T)
     end_decides (NotRunAgain entry run new after later comes keeps) unmet = record {
       next = tt;
       stores = stores_nothing (verdicts X) same old.results new.results
-          (ap (λ (c : Cache C I R A T). c.results) keeps.cache);
+          (ap (λ (c : Cache C I R T). c.results) keeps.cache);
     }
 
   -- a frame's fault tells of no results
@@ -348,7 +348,7 @@ none_before false now after is unmet = refl
 
 module _ {D C V P F I R A T : Type 0} {G : DelegateOf D C V P F I R A T} {X : CxOf C I R A T} {same : I → I → Bool}
     {same_result : R → R → Bool} (laws : AreLaws G X same same_result) where
-  module _ {received : Received R} {old : Cache C I R A T} {e : Evaluation D C V P F I R A T} {starts : ℕ}
+  module _ {received : Received R} {old : Cache C I R T} {e : Evaluation D C V P F I R A T} {starts : ℕ}
       (right : IsRightFor G X same old.cx received old e) (call : Call I)
       (awaits : Awaits G X same old.cx call received old e starts)
       (top : I) (reached : AreReached (G.script old.cx) top (fates_of e.goals))
@@ -376,7 +376,7 @@ module _ {D C V P F I R A T : Type 0} {G : DelegateOf D C V P F I R A T} {X : Cx
         (subst (AreDecided (verdicts X)) by.1.1.replies_are (newest_decided (verdicts X) s below all).replies) by.3
 
     module _ {noop : Bool} where
-      move_decides : {result : Result (Next R) (Fault I R)} {new : Cache C I R A T}
+      move_decides : {result : Result (Next R) (Fault I R)} {new : Cache C I R T}
           {after : Evaluation D C V P F I R A T} {later : ℕ}
           → Advanced G X same same_result noop received old e starts result new after later → after.limits_met ≡ false
           → LeadsDecided G X same result old new after
@@ -419,7 +419,7 @@ module _ {D C V P F I R A T : Type 0} {G : DelegateOf D C V P F I R A T} {X : Cx
       move_decides (NotNoted request goals left stepped) unmet =
           record { next = tt; stores = stores_nothing (verdicts X) same old.results old.results refl }
 
-      turn_decides : {result : Result (Next R) (Fault I R)} {new : Cache C I R A T}
+      turn_decides : {result : Result (Next R) (Fault I R)} {new : Cache C I R T}
           {after : Evaluation D C V P F I R A T} {later : ℕ}
           → Turned G X same same_result noop received old e starts result new after later → after.limits_met ≡ false
           → LeadsDecided G X same result old new after
@@ -447,9 +447,9 @@ module _ {D C V P F I R A T : Type 0} {G : DelegateOf D C V P F I R A T} {X : Cx
 
   -- a turn, told of a context that its cache has, too
   decides_over :
-      {noop : Bool} {cx : C} {given : Received R} {mid : Cache C I R A T} {between : Evaluation D C V P F I R A T}
+      {noop : Bool} {cx : C} {given : Received R} {mid : Cache C I R T} {between : Evaluation D C V P F I R A T}
       {now : ℕ} (context : mid.cx ≡ cx) (call : Call I) (top : I)
-      {result : Result (Next R) (Fault I R)} {new : Cache C I R A T} {after : Evaluation D C V P F I R A T} {later : ℕ}
+      {result : Result (Next R) (Fault I R)} {new : Cache C I R T} {after : Evaluation D C V P F I R A T} {later : ℕ}
       (turned : Turned G X same same_result noop given mid between now result new after later)
       → IsRightFor G X same cx given mid between → Awaits G X same cx call given mid between now
       → AreReached (G.script cx) top (fates_of between.goals) → DecidesFrom (verdicts X) (G.script cx) top
@@ -465,13 +465,13 @@ module _ {D C V P F I R A T : Type 0} {G : DelegateOf D C V P F I R A T} {X : Cx
       turn_decides right call awaits top reached decides stored decided turned unmet)
 
   -- the whole call
-  module _ {noop : Bool} {kind : PathKind} {goal : I} {fate : Fate R} {old : Cache C I R A T}
+  module _ {noop : Bool} {kind : PathKind} {goal : I} {fate : Fate R} {old : Cache C I R T}
       {e : Evaluation D C V P F I R A T} {starts : ℕ}
       (outset : IsAtOutset old e) (are_runs : AreRuns (verdicts X) (G.script old.cx) old.nodes)
       (sound : AreSoundResults same (verdicts X) (G.script old.cx) old.nodes old.results)
       (decides : DecidesFrom (verdicts X) (G.script old.cx) goal)
       (stored : AreDefiniteFrom (verdicts X) (G.script old.cx) goal same old.results) where
-    ran_decides : {result : Result (Next R) (Fault I R)} {new : Cache C I R A T} {after : Evaluation D C V P F I R A T}
+    ran_decides : {result : Result (Next R) (Fault I R)} {new : Cache C I R T} {after : Evaluation D C V P F I R A T}
         {later : ℕ} → Ran G X same same_result noop kind goal fate old e starts result new after later
         → after.limits_met ≡ false → LeadsDecided G X same result old new after
     ran_decides (Began goals held nodes later pushes fates holds nodes_kept one counted) unmet = record {
@@ -505,13 +505,13 @@ module _ {D C V P F I R A T : Type 0} {G : DelegateOf D C V P F I R A T} {X : Cx
           stores = stores_then (verdicts X) same old.results mid.results new.results before.stores then.stores;
         }
 
-  evaluated_decides : {noop looks_up : Bool} {kind : PathKind} {goal : I} {old : Cache C I R A T}
+  evaluated_decides : {noop looks_up : Bool} {kind : PathKind} {goal : I} {old : Cache C I R T}
       {e : Evaluation D C V P F I R A T} {starts : ℕ}
       → IsAtOutset old e → AreRuns (verdicts X) (G.script old.cx) old.nodes
       → AreSoundResults same (verdicts X) (G.script old.cx) old.nodes old.results
       → DecidesFrom (verdicts X) (G.script old.cx) goal
       → AreDefiniteFrom (verdicts X) (G.script old.cx) goal same old.results
-      → {result : Result (Answer R) (Fault I R)} {new : Cache C I R A T} {after : Evaluation D C V P F I R A T}
+      → {result : Result (Answer R) (Fault I R)} {new : Cache C I R T} {after : Evaluation D C V P F I R A T}
       {later : ℕ} → Evaluated G X same same_result noop looks_up kind goal old e starts result new after later
       → after.limits_met ≡ false
       → EndsDecided G X same result × StoresDefinite (verdicts X) same old.results new.results

@@ -42,7 +42,7 @@ IfNewest (s ∷ below) P = P s
 module _ {D C V P F I R A T : Type 0} (G : DelegateOf D C V P F I R A T)
     (same : I → I → Bool) (cx : C) (met : Bool) where
   -- what a goal came to, and that its answer could not be stored
-  of_storing : (results : Store I (StoredResult C I R A T)) (s : OpenGoal C F I R A T) (r : R)
+  of_storing : (results : Store I (StoredResult I R T)) (s : OpenGoal C F I R A T) (r : R)
       → HasComeTo G same cx results met s.0.input r → (fault : Fault I R) → IfDiffers fault (λ found. found ≡ r)
       → FailsToStore same results s.0.input (place_of_item s) fault → IsFaultOf G same cx results met s fault
   of_storing results s r came Memory differs fails = tt
@@ -52,7 +52,7 @@ module _ {D C V P F I R A T : Type 0} (G : DelegateOf D C V P F I R A T)
   of_storing results s r came (Validation goal stored found) differs fails =
       (fails, subst (HasComeTo G same cx results met s.0.input) (sym differs) came)
 
-  newest_storing : (results : Store I (StoredResult C I R A T)) (goals : List (OpenGoal C F I R A T)) (r : R)
+  newest_storing : (results : Store I (StoredResult I R T)) (goals : List (OpenGoal C F I R A T)) (r : R)
       → IfNewest goals (λ s. HasComeTo G same cx results met s.0.input r) → (fault : Fault I R)
       → IfDiffers fault (λ found. found ≡ r) → NewestFailsToStore same results goals fault
       → IfNewest goals (λ s. IsFaultOf G same cx results met s fault)
@@ -60,14 +60,14 @@ module _ {D C V P F I R A T : Type 0} (G : DelegateOf D C V P F I R A T)
   newest_storing results (s ∷ below) r came fault differs fails = of_storing results s r came fault differs fails
 
   -- it is the newest goal's, which is reached
-  of_newest : (results : Store I (StoredResult C I R A T)) (top : I) (goals : List (OpenGoal C F I R A T))
+  of_newest : (results : Store I (StoredResult I R T)) (top : I) (goals : List (OpenGoal C F I R A T))
       (fault : Fault I R) → AreReached (G.script cx) top (fates_of goals)
       → IfNewest goals (λ s. IsFaultOf G same cx results met s fault) → FailsFor G same cx results met top goals fault
   of_newest results top [] fault all is = absurd is
   of_newest results top (s ∷ below) fault all is = IsOfNewest s below refl all.0 is
 
   -- by their inputs, where the limit's result is that of the newest one
-  came_at_limit : (results : Store I (StoredResult C I R A T)) (goals : List (OpenGoal C F I R A T))
+  came_at_limit : (results : Store I (StoredResult I R T)) (goals : List (OpenGoal C F I R A T))
       (entry : StackEntry C I R A T) → option_map (λ s. s.0) (newest goals) ≡ Some entry → met ≡ true
       → IfNewest goals (λ s. HasComeTo G same cx results met s.0.input (G.fixpoint_overflow cx entry.input))
   came_at_limit results [] entry is met_one = let clash : None ≡ Some entry = is in absurd cc
@@ -75,7 +75,7 @@ module _ {D C V P F I R A T : Type 0} (G : DelegateOf D C V P F I R A T)
       inr (ap (λ (x : StackEntry C I R A T). G.fixpoint_overflow cx x.input) (sym one), met_one)
 
 module _ {D C V P F I R A T : Type 0} (G : DelegateOf D C V P F I R A T) (same : I → I → Bool) (cx : C)
-    (results : Store I (StoredResult C I R A T)) (before met : Bool) where
+    (results : Store I (StoredResult I R T)) (before met : Bool) where
   -- a limit was met then, so one was met before or then
   one_met : (before met : Bool) → met ≡ true → before || met ≡ true
   one_met true met is = refl
@@ -101,22 +101,22 @@ module _ {D C V P F I R A T : Type 0} (G : DelegateOf D C V P F I R A T) (same :
 
 -- a script that is done came to its result
 came_newest : {D C V P F I R A T : Type 0} (G : DelegateOf D C V P F I R A T) (X : CxOf C I R A T) (same : I → I → Bool)
-    (cx : C) (results : Store I (StoredResult C I R A T)) (met : Bool) (goals : List (OpenGoal C F I R A T)) (r : R)
+    (cx : C) (results : Store I (StoredResult I R T)) (met : Bool) (goals : List (OpenGoal C F I R A T)) (r : R)
     → EndsNewest (verdicts X) (G.script cx) goals r → IfNewest goals (λ s. HasComeTo G same cx results met s.0.input r)
 came_newest G X same cx results met [] r ends = absurd ends
 came_newest G X same cx results met (s ∷ below) r ends = inl (ends.replies, ends.is_fitting, ends.is_done)
 
 -- memory is out, or it is the newest goal's fault
 abbrev IsOutOrNewest : {D C V P F I R A T : Type 0} → DelegateOf D C V P F I R A T → (I → I → Bool) → C
-    → Store I (StoredResult C I R A T) → Bool → List (OpenGoal C F I R A T) → Fault I R → Type 0
+    → Store I (StoredResult I R T) → Bool → List (OpenGoal C F I R A T) → Fault I R → Type 0
 IsOutOrNewest G same cx results met goals fault =
     (fault ≡ Memory) ⊎ IfNewest goals (λ s. IsFaultOf G same cx results met s fault)
 
 module _ {D C V P F I R A T : Type 0} {G : DelegateOf D C V P F I R A T}
     {X : CxOf C I R A T} {same : I → I → Bool} where
   -- the newest goal could not be popped
-  pop_fails : {outcome : R} {reason : Option (RebaseReason C I R A T)} {old : Cache C I R A T}
-      {before : Evaluation D C V P F I R A T} {result : Result (Next R) (Fault I R)} {new : Cache C I R A T}
+  pop_fails : {outcome : R} {reason : Option (RebaseReason C I R A T)} {old : Cache C I R T}
+      {before : Evaluation D C V P F I R A T} {result : Result (Next R) (Fault I R)} {new : Cache C I R T}
       {after : Evaluation D C V P F I R A T} (met : Bool)
       → PopsOrFails G X same outcome reason old before result new after
       → IfNewest before.goals (λ s. HasComeTo G same old.cx old.results met s.0.input outcome)
@@ -128,7 +128,7 @@ module _ {D C V P F I R A T : Type 0} {G : DelegateOf D C V P F I R A T}
       (newest_storing G same old.cx met old.results before.goals outcome came fault fails.differs whose)))
 
   -- or its frame failed
-  module _ {received : Received R} {old : Cache C I R A T} {e : Evaluation D C V P F I R A T} {starts : ℕ}
+  module _ {received : Received R} {old : Cache C I R T} {e : Evaluation D C V P F I R A T} {starts : ℕ}
       (right : IsRightFor G X same old.cx received old e) (call : Call I)
       (awaits : Awaits G X same old.cx call received old e starts) where
     frame_fails : (met : Bool) (fault : Fault I R) → IsStepFault G X old.cx received e.goals fault
@@ -147,7 +147,7 @@ module _ {D C V P F I R A T : Type 0} {G : DelegateOf D C V P F I R A T}
 newest_before : {D C V P F I R A T : Type 0} {G : DelegateOf D C V P F I R A T} {X : CxOf C I R A T}
     (same : I → I → Bool) {cx : C} {given : Received R} {request : Request I R} {old new : List (OpenGoal C F I R A T)}
     → HasStepped G X cx given request old new
-    → (read : C) (results : Store I (StoredResult C I R A T)) (met : Bool) (fault : Fault I R)
+    → (read : C) (results : Store I (StoredResult I R T)) (met : Bool) (fault : Fault I R)
     → IsOutOrNewest G same read results met new fault → IsOutOrNewest G same read results met old fault
 newest_before {C = C} {F = F} {I = I} {R = R} {A = A} {T = T} {G = G} same stepped read results met fault h =
     subst (λ (l : List (OpenGoal C F I R A T)). IsOutOrNewest G same read results met l fault) (sym stepped.was)
@@ -155,8 +155,8 @@ newest_before {C = C} {F = F} {I = I} {R = R} {A = A} {T = T} {G = G} same stepp
 
 module _ {D C V P F I R A T : Type 0} {G : DelegateOf D C V P F I R A T} {X : CxOf C I R A T}
     {same : I → I → Bool} {same_result : R → R → Bool} where
-  end_fails : {outcome : R} {old : Cache C I R A T} {e : Evaluation D C V P F I R A T} {starts : ℕ}
-      {result : Result (Next R) (Fault I R)} {new : Cache C I R A T} {after : Evaluation D C V P F I R A T} {later : ℕ}
+  end_fails : {outcome : R} {old : Cache C I R T} {e : Evaluation D C V P F I R A T} {starts : ℕ}
+      {result : Result (Next R) (Fault I R)} {new : Cache C I R T} {after : Evaluation D C V P F I R A T} {later : ℕ}
       → EndsNewest (verdicts X) (G.script old.cx) e.goals outcome
       → (run_ends : RunEnds G X same same_result outcome old e starts result new after later)
       → IfErr result (IsOutOrNewest G same old.cx new.results (met_at_end run_ends).most_runs e.goals)
@@ -167,10 +167,10 @@ module _ {D C V P F I R A T : Type 0} {G : DelegateOf D C V P F I R A T} {X : Cx
   end_fails ends (RanAgain entry run new after later comes keeps reran counted) = tt
   end_fails ends (NotRunAgain entry run new after later comes keeps) = inl refl
 
-  module _ {noop : Bool} {received : Received R} {old : Cache C I R A T} {e : Evaluation D C V P F I R A T} {starts : ℕ}
+  module _ {noop : Bool} {received : Received R} {old : Cache C I R T} {e : Evaluation D C V P F I R A T} {starts : ℕ}
       (right : IsRightFor G X same old.cx received old e) (call : Call I)
       (awaits : Awaits G X same old.cx call received old e starts) where
-    move_fails : {result : Result (Next R) (Fault I R)} {new : Cache C I R A T} {after : Evaluation D C V P F I R A T}
+    move_fails : {result : Result (Next R) (Fault I R)} {new : Cache C I R T} {after : Evaluation D C V P F I R A T}
         {later : ℕ} (advanced : Advanced G X same same_result noop received old e starts result new after later)
         → IfErr result (IsOutOrNewest G same old.cx new.results (met_by_move advanced).most_runs e.goals)
     move_fails (FrameFailed fault goals failed) = frame_fails right call awaits false fault failed
@@ -185,7 +185,7 @@ module _ {D C V P F I R A T : Type 0} {G : DelegateOf D C V P F I R A T} {X : Cx
     move_fails (Noted request goals noted stepped about notes) = tt
     move_fails (NotNoted request goals left stepped) = inl refl
 
-    turn_fails : {result : Result (Next R) (Fault I R)} {new : Cache C I R A T} {after : Evaluation D C V P F I R A T}
+    turn_fails : {result : Result (Next R) (Fault I R)} {new : Cache C I R T} {after : Evaluation D C V P F I R A T}
         {later : ℕ} (turned : Turned G X same same_result noop received old e starts result new after later)
         → IfErr result (IsOutOrNewest G same old.cx new.results (met_by_turn turned).most_runs e.goals)
     turn_fails (GoesOn given mid new between after later advanced goes is first stored) = tt
@@ -193,13 +193,13 @@ module _ {D C V P F I R A T : Type 0} {G : DelegateOf D C V P F I R A T} {X : Cx
     turn_fails (NotAnswered answer new after later advanced) = inl refl
     turn_fails (Failed fault mid new between after later advanced goes is) =
         subst (λ rs. IsOutOrNewest G same old.cx rs (met_by_move advanced).most_runs e.goals fault)
-        (ap (λ (c : Cache C I R A T). c.results) (sym goes.rest)) (move_fails advanced)
+        (ap (λ (c : Cache C I R T). c.results) (sym goes.rest)) (move_fails advanced)
     turn_fails (FailedForGood fault new between after later advanced is) = inl refl
 
   -- a turn, told of a context that its cache has, too
   fails_over :
-      {noop : Bool} {cx : C} {given : Received R} {mid : Cache C I R A T} {between : Evaluation D C V P F I R A T}
-      {now : ℕ} (context : mid.cx ≡ cx) (call : Call I) {result : Result (Next R) (Fault I R)} {new : Cache C I R A T}
+      {noop : Bool} {cx : C} {given : Received R} {mid : Cache C I R T} {between : Evaluation D C V P F I R A T}
+      {now : ℕ} (context : mid.cx ≡ cx) (call : Call I) {result : Result (Next R) (Fault I R)} {new : Cache C I R T}
       {after : Evaluation D C V P F I R A T} {later : ℕ}
       (turned : Turned G X same same_result noop given mid between now result new after later)
       → IsRightFor G X same cx given mid between → Awaits G X same cx call given mid between now
@@ -211,10 +211,10 @@ module _ {D C V P F I R A T : Type 0} {G : DelegateOf D C V P F I R A T} {X : Cx
       (λ right awaits. turn_fails right call awaits turned)
 
   module _ {noop : Bool} (laws : AreLaws G X same same_result) {kind : PathKind} {goal : I} {fate : Fate R}
-      {old : Cache C I R A T} {e : Evaluation D C V P F I R A T} {starts : ℕ}
+      {old : Cache C I R T} {e : Evaluation D C V P F I R A T} {starts : ℕ}
       (outset : IsAtOutset old e) (are_runs : AreRuns (verdicts X) (G.script old.cx) old.nodes)
       (sound : AreSoundResults same (verdicts X) (G.script old.cx) old.nodes old.results) where
-    ran_fails : {result : Result (Next R) (Fault I R)} {new : Cache C I R A T} {after : Evaluation D C V P F I R A T}
+    ran_fails : {result : Result (Next R) (Fault I R)} {new : Cache C I R T} {after : Evaluation D C V P F I R A T}
         {later : ℕ} (ran : Ran G X same same_result noop kind goal fate old e starts result new after later)
         → IfErr result (FailsFor G same old.cx new.results (met_in_turns ran).most_runs goal (last_goals ran))
     ran_fails (Began goals held nodes later pushes fates holds nodes_kept one counted) = tt
@@ -234,11 +234,11 @@ module _ {D C V P F I R A T : Type 0} {G : DelegateOf D C V P F I R A T} {X : Cx
               (met_by_turn turned).most_runs between.goals fault whose)
         ])
 
-  evaluated_fails : {noop looks_up : Bool} {kind : PathKind} {goal : I} {old : Cache C I R A T}
+  evaluated_fails : {noop looks_up : Bool} {kind : PathKind} {goal : I} {old : Cache C I R T}
       {e : Evaluation D C V P F I R A T} {starts : ℕ}
       → AreLaws G X same same_result → IsAtOutset old e → AreRuns (verdicts X) (G.script old.cx) old.nodes
       → AreSoundResults same (verdicts X) (G.script old.cx) old.nodes old.results
-      → {result : Result (Answer R) (Fault I R)} {new : Cache C I R A T}
+      → {result : Result (Answer R) (Fault I R)} {new : Cache C I R T}
       {after : Evaluation D C V P F I R A T} {later : ℕ}
       (evaluated : Evaluated G X same same_result noop looks_up kind goal old e starts result new after later)
       → IfErr result

@@ -48,23 +48,23 @@ found_stays says (Validation goal stored found) live old new collected node is s
 
 -- ---- nodes that show stored results
 
-module _ {C I R A T : Type 0} (says : Verdicts R) (same : I → I → Bool) where
-  abbrev pub AllShown : Cache C I R A T → List NodeId → Type 0
+module _ {C I R T : Type 0} (says : Verdicts R) (same : I → I → Bool) where
+  abbrev pub AllShown : Cache C I R T → List NodeId → Type 0
   AllShown cache items = (node : NodeId) → Contains items node → ShowsStored says same cache node
 
   -- or what a fault tells
-  abbrev AllTold : Fault I R → Cache C I R A T → List NodeId → Type 0
+  abbrev AllTold : Fault I R → Cache C I R T → List NodeId → Type 0
   AllTold fault cache items =
       (node : NodeId) → Contains items node → ShowsStored says same cache node ⊎ ShowsFound says cache.nodes fault node
 
-  module _ (old new : Cache C I R A T) (results : KeepsResults same old.results new.results) where
+  module _ (old new : Cache C I R T) (results : KeepsResults same old.results new.results) where
     -- an equal result is stored still
     still_shown : (node : NodeId) (was : ShowsStored says same old node)
         → HasGraph says new.nodes was.goal was.stored.result.result (Some node) → ShowsStored says same new node
     still_shown node was shows =
         at (stored_at same new.results was.goal was.place) refl (results was.goal was.place was.stored was.is_stored)
       where
-        at : (o : Option (StoredResult C I R A T)) → stored_at same new.results was.goal was.place ≡ o
+        at : (o : Option (StoredResult I R T)) → stored_at same new.results was.goal was.place ≡ o
             → IsSomeAnd o (λ t. t.result.result ≡ was.stored.result.result) → ShowsStored says same new node
         at None is h = absurd h
         at (Some t) is h = record {
@@ -87,7 +87,7 @@ module _ {C I R A T : Type 0} (says : Verdicts R) (same : I → I → Bool) wher
         let was = all node has in still_shown node was (graph_stays says live old.nodes new.nodes collected was.goal
         was.stored.result.result (Some node) (lives node has) was.shows)
 
-  told_stays : (fault : Fault I R) (live : ℕ → Bool) (old new : Cache C I R A T)
+  told_stays : (fault : Fault I R) (live : ℕ → Bool) (old new : Cache C I R T)
       → KeepsResults same old.results new.results → Collected live old.nodes new.nodes → (items : List NodeId)
       → ((node : NodeId) → Contains items node → IsTrue (live node.0))
       → AllTold fault old items → AllTold fault new items
@@ -100,12 +100,12 @@ module _ {C I R A T : Type 0} (says : Verdicts R) (same : I → I → Bool) wher
   -- ---- the node of an answer that is stored
 
   -- what shows a result of a goal that is stored or told
-  shows_either : {B : Type 0} (result : Result B (Fault I R)) (cache : Cache C I R A T) (goal : I) (r : R)
+  shows_either : {B : Type 0} (result : Result B (Fault I R)) (cache : Cache C I R T) (goal : I) (r : R)
       (node : NodeId) → HasGraph says cache.nodes goal r (Some node) → IsStoredOrTold same cache.results goal r result
       → IfOk result (λ answer. ShowsStored says same cache node)
       × IfErr result (λ fault. ShowsFound says cache.nodes fault node)
   shows_either (Ok answer) cache goal r node graph told =
-      let s = mapped_some (λ (s : StoredResult C I R A T). s.result.result)
+      let s = mapped_some (λ (s : StoredResult I R T). s.result.result)
       (stored_at same cache.results goal told.0) r told.1 in (
         record {
           goal = goal;
@@ -130,17 +130,17 @@ module _ {C I R A T : Type 0} (says : Verdicts R) (same : I → I → Bool) wher
   )
 
   -- all that is noted after a move
-  abbrev NotedShow : {B : Type 0} → Result B (Fault I R) → Cache C I R A T → List NodeId → Type 0
+  abbrev NotedShow : {B : Type 0} → Result B (Fault I R) → Cache C I R T → List NodeId → Type 0
   NotedShow result cache items =
       IfOk result (λ next. AllShown cache items) × IfErr result (λ fault. AllTold fault cache items)
 
   -- where all shows stored results that did so before
-  all_show : {B : Type 0} (result : Result B (Fault I R)) (cache : Cache C I R A T) (items : List NodeId)
+  all_show : {B : Type 0} (result : Result B (Fault I R)) (cache : Cache C I R T) (items : List NodeId)
       → AllShown cache items → NotedShow result cache items
   all_show (Ok next) cache items all = (all, tt)
   all_show (Err fault) cache items all = (tt, λ node has. inl (all node has))
 
-  more_show : {B : Type 0} (result : Result B (Fault I R)) (cache : Cache C I R A T) (before after : List NodeId)
+  more_show : {B : Type 0} (result : Result B (Fault I R)) (cache : Cache C I R T) (before after : List NodeId)
       → NotesMore says same before result cache after → AllShown cache before → NotedShow result cache after
   more_show result cache before after (NotesNone is) all =
       subst (NotedShow result cache) (sym is) (all_show result cache before all)
@@ -163,14 +163,14 @@ module _ {C I R A T : Type 0} (says : Verdicts R) (same : I → I → Bool) wher
 module _ {C I R A T : Type 0} (X : CxOf C I R A T) (same : I → I → Bool) where
   -- From this place on, each node is reached from the answer's, or from one that shows a stored result, or
   -- what the fault tells.
-  abbrev IsLeft : ℕ → Result (Answer R) (Fault I R) → Cache C I R A T → Type 0
+  abbrev IsLeft : ℕ → Result (Answer R) (Fault I R) → Cache C I R T → Type 0
   IsLeft first (Ok answer) new =
       LeavesReached first (λ root. (answer.node ≡ Some root) ⊎ ShowsStored (verdicts X) same new root) new
   IsLeft first (Err fault) new = fault ≢ Memory → LeavesReached first
       (λ root. ShowsStored (verdicts X) same new root ⊎ ShowsFound (verdicts X) new.nodes fault root) new
 
   -- As long as a call goes on, all that is noted shows stored results; when it ends, such nodes are left.
-  abbrev IsLeftBy : Result (Next R) (Fault I R) → Cache C I R A T → Drafts → Type 0
+  abbrev IsLeftBy : Result (Next R) (Fault I R) → Cache C I R T → Drafts → Type 0
   IsLeftBy (Ok (Step given)) new drafts = AllShown (verdicts X) same new drafts.stored.items
   IsLeftBy (Ok (Finished answer)) new drafts = IsLeft drafts.first (Ok answer) new
   IsLeftBy (Err fault) new drafts = IsLeft drafts.first (Err fault) new
@@ -179,8 +179,8 @@ module _ {C I R A T : Type 0} (X : CxOf C I R A T) (same : I → I → Bool) whe
 
 module _ {D C V P F I R A T : Type 0} {G : DelegateOf D C V P F I R A T} {X : CxOf C I R A T}
     {same : I → I → Bool} {same_result : R → R → Bool} where
-  end_notes : {outcome : R} {old : Cache C I R A T} {e : Evaluation D C V P F I R A T} {starts : ℕ}
-      {result : Result (Next R) (Fault I R)} {new : Cache C I R A T} {after : Evaluation D C V P F I R A T} {later : ℕ}
+  end_notes : {outcome : R} {old : Cache C I R T} {e : Evaluation D C V P F I R A T} {starts : ℕ}
+      {result : Result (Next R) (Fault I R)} {new : Cache C I R T} {after : Evaluation D C V P F I R A T} {later : ℕ}
       → RunEnds G X same same_result outcome old e starts result new after later
       → AllShown (verdicts X) same new e.drafts.stored.items
       → NotedShow (verdicts X) same result new after.drafts.stored.items
@@ -199,9 +199,9 @@ module _ {D C V P F I R A T : Type 0} {G : DelegateOf D C V P F I R A T} {X : Cx
         (sym keeps.rest) all node has),
   )
 
-  module _ {noop : Bool} {received : Received R} {old : Cache C I R A T} {e : Evaluation D C V P F I R A T} {starts : ℕ}
+  module _ {noop : Bool} {received : Received R} {old : Cache C I R T} {e : Evaluation D C V P F I R A T} {starts : ℕ}
       (all : AllShown (verdicts X) same old e.drafts.stored.items) where
-    move_notes : {result : Result (Next R) (Fault I R)} {new : Cache C I R A T} {after : Evaluation D C V P F I R A T}
+    move_notes : {result : Result (Next R) (Fault I R)} {new : Cache C I R T} {after : Evaluation D C V P F I R A T}
         {later : ℕ} → Advanced G X same same_result noop received old e starts result new after later
         → NotedShow (verdicts X) same result new after.drafts.stored.items
     move_notes (FrameFailed fault goals failed) = (tt, λ node has. inl (all node has))
@@ -225,24 +225,24 @@ module _ {D C V P F I R A T : Type 0} {G : DelegateOf D C V P F I R A T} {X : Cx
 
     -- ---- and turns leave
 
-    turn_leaves : {result : Result (Next R) (Fault I R)} {new : Cache C I R A T} {after : Evaluation D C V P F I R A T}
+    turn_leaves : {result : Result (Next R) (Fault I R)} {new : Cache C I R T} {after : Evaluation D C V P F I R A T}
         {later : ℕ} → Turned G X same same_result noop received old e starts result new after later
         → IsLeftBy X same result new after.drafts
     turn_leaves (GoesOn given mid new between after later advanced goes is first stored) =
         subst (λ (v : Vec NodeId Global). AllShown (verdicts X) same new v.items) (sym stored)
         (shown_stays (verdicts X) same mid new
-        (KeepsResults-same same mid.results new.results (ap (λ (c : Cache C I R A T). c.results) goes.rest)) goes.live
+        (KeepsResults-same same mid.results new.results (ap (λ (c : Cache C I R T). c.results) goes.rest)) goes.live
         goes.collected between.drafts.stored.items goes.noted_are (move_notes advanced).0)
     turn_leaves (Answered answer mid new after later advanced goes) = λ at late left.
         let from = goes.leaves at late left in
         let shown = shown_stays (verdicts X) same mid new
-        (KeepsResults-same same mid.results new.results (ap (λ (c : Cache C I R A T). c.results) goes.rest)) goes.live
+        (KeepsResults-same same mid.results new.results (ap (λ (c : Cache C I R T). c.results) goes.rest)) goes.live
         goes.collected after.drafts.stored.items goes.noted_are (move_notes advanced).0 in
         (from.0, elim from.1 [ inl target ↦ inl target | inr noted_one ↦ inr (shown from.0 noted_one) ], from.2)
     turn_leaves (NotAnswered answer new after later advanced) = λ other. absurd (other refl)
     turn_leaves (Failed fault mid new between after later advanced goes is) = λ other.
         let told = told_stays (verdicts X) same fault goes.live mid new
-        (KeepsResults-same same mid.results new.results (ap (λ (c : Cache C I R A T). c.results) goes.rest))
+        (KeepsResults-same same mid.results new.results (ap (λ (c : Cache C I R T). c.results) goes.rest))
         goes.collected between.drafts.stored.items goes.noted_are (move_notes advanced).1 in
         subst (λ (a : Evaluation D C V P F I R A T). LeavesReached a.drafts.first
         (λ root. ShowsStored (verdicts X) same new root ⊎ ShowsFound (verdicts X) new.nodes fault root) new) (sym is)
@@ -253,8 +253,8 @@ module _ {D C V P F I R A T : Type 0} {G : DelegateOf D C V P F I R A T} {X : Cx
   -- ---- the whole call
 
   -- a turn keeps the place from which on the call's nodes stand
-  turn_first : {noop : Bool} {received : Received R} {old : Cache C I R A T} {e : Evaluation D C V P F I R A T}
-      {starts : ℕ} {result : Result (Next R) (Fault I R)} {new : Cache C I R A T}
+  turn_first : {noop : Bool} {received : Received R} {old : Cache C I R T} {e : Evaluation D C V P F I R A T}
+      {starts : ℕ} {result : Result (Next R) (Fault I R)} {new : Cache C I R T}
       {after : Evaluation D C V P F I R A T} {later : ℕ}
       → Turned G X same same_result noop received old e starts result new after later
       → after.drafts.first ≡ e.drafts.first
@@ -268,10 +268,10 @@ module _ {D C V P F I R A T : Type 0} {G : DelegateOf D C V P F I R A T} {X : Cx
       ap (λ (a : Evaluation D C V P F I R A T). a.drafts.first) is ∙ (advanced_noted advanced).first
 
   module _ {noop : Bool} (laws : AreLaws G X same same_result) {kind : PathKind} {goal : I} {fate : Fate R}
-      {old : Cache C I R A T} {e : Evaluation D C V P F I R A T} {starts : ℕ}
+      {old : Cache C I R T} {e : Evaluation D C V P F I R A T} {starts : ℕ}
       (outset : IsAtOutset old e) (are_runs : AreRuns (verdicts X) (G.script old.cx) old.nodes)
       (sound : AreSoundResults same (verdicts X) (G.script old.cx) old.nodes old.results) where
-    ran_shows : {given : Received R} {new : Cache C I R A T} {after : Evaluation D C V P F I R A T} {later : ℕ}
+    ran_shows : {given : Received R} {new : Cache C I R T} {after : Evaluation D C V P F I R A T} {later : ℕ}
         (result : Result (Next R) (Fault I R))
         → result ≡ Ok (Step given) → Ran G X same same_result noop kind goal fate old e starts result new after later
         → AllShown (verdicts X) same new after.drafts.stored.items
@@ -285,7 +285,7 @@ module _ {D C V P F I R A T : Type 0} {G : DelegateOf D C V P F I R A T} {X : Cx
         subst (λ r. IsLeftBy X same r new after.drafts) is
         (turn_leaves (ran_shows {given = earlier} (Ok (Step earlier)) refl ran) turned)
 
-    ran_leaves : {new : Cache C I R A T} {after : Evaluation D C V P F I R A T} {later : ℕ}
+    ran_leaves : {new : Cache C I R T} {after : Evaluation D C V P F I R A T} {later : ℕ}
         (result : Result (Answer R) (Fault I R)) (last : Result (Next R) (Fault I R))
         → last ≡ ended result → Ran G X same same_result noop kind goal fate old e starts last new after later
         → IsLeft X same (length old.nodes) result new
@@ -306,8 +306,8 @@ module _ {D C V P F I R A T : Type 0} {G : DelegateOf D C V P F I R A T} {X : Cx
         (turn_leaves (ran_shows {given = given} (Ok (Step given)) refl ran) turned))
 
   evaluated_leaves :
-      {noop looks_up : Bool} {kind : PathKind} {goal : I} {old : Cache C I R A T} {e : Evaluation D C V P F I R A T}
-      {starts : ℕ} {result : Result (Answer R) (Fault I R)} {new : Cache C I R A T}
+      {noop looks_up : Bool} {kind : PathKind} {goal : I} {old : Cache C I R T} {e : Evaluation D C V P F I R A T}
+      {starts : ℕ} {result : Result (Answer R) (Fault I R)} {new : Cache C I R T}
       {after : Evaluation D C V P F I R A T} {later : ℕ}
       → AreLaws G X same same_result → IsAtOutset old e → AreRuns (verdicts X) (G.script old.cx) old.nodes
       → AreSoundResults same (verdicts X) (G.script old.cx) old.nodes old.results

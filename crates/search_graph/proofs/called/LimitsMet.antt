@@ -39,8 +39,8 @@ either_of false false false refused_now most_now = refl
 
 module _ {D C V P F I R A T : Type 0} {G : DelegateOf D C V P F I R A T} {X : CxOf C I R A T}
     {same : I → I → Bool} {same_result : R → R → Bool} where
-  end_tells : {outcome : R} {old : Cache C I R A T} {e : Evaluation D C V P F I R A T} {starts : ℕ}
-      {result : Result (Next R) (Fault I R)} {new : Cache C I R A T} {after : Evaluation D C V P F I R A T} {later : ℕ}
+  end_tells : {outcome : R} {old : Cache C I R T} {e : Evaluation D C V P F I R A T} {starts : ℕ}
+      {result : Result (Next R) (Fault I R)} {new : Cache C I R T} {after : Evaluation D C V P F I R A T} {later : ℕ}
       → (ends : RunEnds G X same same_result outcome old e starts result new after later)
       → after.limits_met ≡ (e.limits_met || ((met_at_end ends).refused || (met_at_end ends).most_runs))
   end_tells {e = e} (EndedDone entry run reason result new after comes pop) =
@@ -53,8 +53,8 @@ module _ {D C V P F I R A T : Type 0} {G : DelegateOf D C V P F I R A T} {X : Cx
       ap (λ (a : Evaluation D C V P F I R A T). a.limits_met) keeps.rest ∙ sym (met_or e.limits_met)
 
   module _ {noop : Bool} where
-    move_tells : {received : Received R} {old : Cache C I R A T} {e : Evaluation D C V P F I R A T} {starts : ℕ}
-        {result : Result (Next R) (Fault I R)} {new : Cache C I R A T}
+    move_tells : {received : Received R} {old : Cache C I R T} {e : Evaluation D C V P F I R A T} {starts : ℕ}
+        {result : Result (Next R) (Fault I R)} {new : Cache C I R T}
         {after : Evaluation D C V P F I R A T} {later : ℕ}
         → (advanced : Advanced G X same same_result noop received old e starts result new after later)
         → after.limits_met ≡ (e.limits_met || ((met_by_move advanced).refused || (met_by_move advanced).most_runs))
@@ -67,8 +67,8 @@ module _ {D C V P F I R A T : Type 0} {G : DelegateOf D C V P F I R A T} {X : Cx
     move_tells {e = e} (Noted request goals noted stepped about notes) = sym (met_or e.limits_met)
     move_tells {e = e} (NotNoted request goals left stepped) = sym (met_or e.limits_met)
 
-    pub turn_tells : {received : Received R} {old : Cache C I R A T} {e : Evaluation D C V P F I R A T} {starts : ℕ}
-        {result : Result (Next R) (Fault I R)} {new : Cache C I R A T}
+    pub turn_tells : {received : Received R} {old : Cache C I R T} {e : Evaluation D C V P F I R A T} {starts : ℕ}
+        {result : Result (Next R) (Fault I R)} {new : Cache C I R T}
         {after : Evaluation D C V P F I R A T} {later : ℕ}
         → (turned : Turned G X same same_result noop received old e starts result new after later)
         → after.limits_met ≡ (e.limits_met || ((met_by_turn turned).refused || (met_by_turn turned).most_runs))
@@ -81,8 +81,8 @@ module _ {D C V P F I R A T : Type 0} {G : DelegateOf D C V P F I R A T} {X : Cx
     turn_tells (FailedForGood fault new between after later advanced is) =
         ap (λ (a : Evaluation D C V P F I R A T). a.limits_met) is ∙ move_tells advanced
 
-    ran_tells : {kind : PathKind} {goal : I} {fate : Fate R} {old : Cache C I R A T} {e : Evaluation D C V P F I R A T}
-        {starts : ℕ} {result : Result (Next R) (Fault I R)} {new : Cache C I R A T}
+    ran_tells : {kind : PathKind} {goal : I} {fate : Fate R} {old : Cache C I R T} {e : Evaluation D C V P F I R A T}
+        {starts : ℕ} {result : Result (Next R) (Fault I R)} {new : Cache C I R T}
         {after : Evaluation D C V P F I R A T} {later : ℕ}
         → (ran : Ran G X same same_result noop kind goal fate old e starts result new after later)
         → after.limits_met ≡ (e.limits_met || ((met_in_turns ran).refused || (met_in_turns ran).most_runs))
@@ -98,7 +98,7 @@ module _ {D C V P F I R A T : Type 0} {G : DelegateOf D C V P F I R A T} {X : Cx
 -- ---- no question is refused where no question leads out of the goals
 
 module _ {D C V P F I R A T : Type 0} {G : DelegateOf D C V P F I R A T} {X : CxOf C I R A T} {same : I → I → Bool}
-    {received : Received R} {old : Cache C I R A T} {e : Evaluation D C V P F I R A T} {starts : ℕ}
+    {received : Received R} {old : Cache C I R T} {e : Evaluation D C V P F I R A T} {starts : ℕ}
     (right : IsRightFor G X same old.cx received old e) (call : Call I)
     (awaits : Awaits G X same old.cx call received old e starts) (enclosed : CallIsEnclosed G X old.cx call) where
   has_depth : (kind : PathKind) (goal : I) (goals : List (OpenGoal C F I R A T))
@@ -116,8 +116,8 @@ module _ {D C V P F I R A T : Type 0} {G : DelegateOf D C V P F I R A T} {X : Cx
 -- the end of a run refuses none
 end_refuses_none :
     {D C V P F I R A T : Type 0} {G : DelegateOf D C V P F I R A T} {X : CxOf C I R A T} {same : I → I → Bool}
-    {same_result : R → R → Bool} {outcome : R} {old : Cache C I R A T} {e : Evaluation D C V P F I R A T} {starts : ℕ}
-    {result : Result (Next R) (Fault I R)} {new : Cache C I R A T} {after : Evaluation D C V P F I R A T} {later : ℕ}
+    {same_result : R → R → Bool} {outcome : R} {old : Cache C I R T} {e : Evaluation D C V P F I R A T} {starts : ℕ}
+    {result : Result (Next R) (Fault I R)} {new : Cache C I R T} {after : Evaluation D C V P F I R A T} {later : ℕ}
     (ends : RunEnds G X same same_result outcome old e starts result new after later)
     → (met_at_end ends).refused ≡ false
 end_refuses_none (EndedDone entry run reason result new after comes pop) = refl
@@ -127,11 +127,11 @@ end_refuses_none (NotRunAgain entry run new after later comes keeps) = refl
 
 module _ {D C V P F I R A T : Type 0} {G : DelegateOf D C V P F I R A T} {X : CxOf C I R A T} {same : I → I → Bool}
     {same_result : R → R → Bool} {noop : Bool} where
-  module _ {received : Received R} {old : Cache C I R A T} {e : Evaluation D C V P F I R A T} {starts : ℕ}
+  module _ {received : Received R} {old : Cache C I R T} {e : Evaluation D C V P F I R A T} {starts : ℕ}
       (right : IsRightFor G X same old.cx received old e) (call : Call I)
       (awaits : Awaits G X same old.cx call received old e starts) (enclosed : CallIsEnclosed G X old.cx call) where
     move_refuses_none :
-        {result : Result (Next R) (Fault I R)} {new : Cache C I R A T} {after : Evaluation D C V P F I R A T}
+        {result : Result (Next R) (Fault I R)} {new : Cache C I R T} {after : Evaluation D C V P F I R A T}
         {later : ℕ} (advanced : Advanced G X same same_result noop received old e starts result new after later)
         → (met_by_move advanced).refused ≡ false
     move_refuses_none (FrameFailed fault goals failed) = refl
@@ -144,7 +144,7 @@ module _ {D C V P F I R A T : Type 0} {G : DelegateOf D C V P F I R A T} {X : Cx
     move_refuses_none (NotNoted request goals left stepped) = refl
 
     turn_refuses_none :
-        {result : Result (Next R) (Fault I R)} {new : Cache C I R A T} {after : Evaluation D C V P F I R A T}
+        {result : Result (Next R) (Fault I R)} {new : Cache C I R T} {after : Evaluation D C V P F I R A T}
         {later : ℕ} (turned : Turned G X same same_result noop received old e starts result new after later)
         → (met_by_turn turned).refused ≡ false
     turn_refuses_none (GoesOn given mid new between after later advanced goes is first stored) =
@@ -156,8 +156,8 @@ module _ {D C V P F I R A T : Type 0} {G : DelegateOf D C V P F I R A T} {X : Cx
 
   -- a turn, told of a context that its cache has, too
   refuses_none_over :
-      {cx : C} {given : Received R} {mid : Cache C I R A T} {between : Evaluation D C V P F I R A T} {now : ℕ}
-      (context : mid.cx ≡ cx) (call : Call I) {result : Result (Next R) (Fault I R)} {new : Cache C I R A T}
+      {cx : C} {given : Received R} {mid : Cache C I R T} {between : Evaluation D C V P F I R A T} {now : ℕ}
+      (context : mid.cx ≡ cx) (call : Call I) {result : Result (Next R) (Fault I R)} {new : Cache C I R T}
       {after : Evaluation D C V P F I R A T} {later : ℕ}
       (turned : Turned G X same same_result noop given mid between now result new after later)
       → IsRightFor G X same cx given mid between → Awaits G X same cx call given mid between now
@@ -167,13 +167,13 @@ module _ {D C V P F I R A T : Type 0} {G : DelegateOf D C V P F I R A T} {X : Cx
       → CallIsEnclosed G X c call → (met_by_turn turned).refused ≡ false) context
       (λ right awaits enclosed. turn_refuses_none right call awaits enclosed turned)
 
-  module _ (laws : AreLaws G X same same_result) {kind : PathKind} {goal : I} {old : Cache C I R A T}
+  module _ (laws : AreLaws G X same same_result) {kind : PathKind} {goal : I} {old : Cache C I R T}
       {e : Evaluation D C V P F I R A T} {starts : ℕ}
       (outset : IsAtOutset old e) (are_runs : AreRuns (verdicts X) (G.script old.cx) old.nodes)
       (sound : AreSoundResults same (verdicts X) (G.script old.cx) old.nodes old.results)
       (call : Call I) (at : Begins G X old.cx same call goal e.root_depth.0 starts e.limits_met old.results)
       (enclosed : CallIsEnclosed G X old.cx call) where
-    ran_refuses_none : {fate : Fate R} {result : Result (Next R) (Fault I R)} {new : Cache C I R A T}
+    ran_refuses_none : {fate : Fate R} {result : Result (Next R) (Fault I R)} {new : Cache C I R T}
         {after : Evaluation D C V P F I R A T} {later : ℕ}
         (ran : Ran G X same same_result noop kind goal fate old e starts result new after later)
         → (met_in_turns ran).refused ≡ false
@@ -188,9 +188,9 @@ module _ {D C V P F I R A T : Type 0} {G : DelegateOf D C V P F I R A T} {X : Cx
 
 module _ {D C V P F I R A T : Type 0} {G : DelegateOf D C V P F I R A T} {X : CxOf C I R A T}
     {same : I → I → Bool} {same_result : R → R → Bool} where
-  module _ {noop looks_up : Bool} {kind : PathKind} {goal : I} {old : Cache C I R A T}
+  module _ {noop looks_up : Bool} {kind : PathKind} {goal : I} {old : Cache C I R T}
       {e : Evaluation D C V P F I R A T} {starts : ℕ} where
-    evaluated_tells_limits : {result : Result (Answer R) (Fault I R)} {new : Cache C I R A T}
+    evaluated_tells_limits : {result : Result (Answer R) (Fault I R)} {new : Cache C I R T}
         {after : Evaluation D C V P F I R A T} {later : ℕ}
         (evaluated : Evaluated G X same same_result noop looks_up kind goal old e starts result new after later)
         → after.limits_met
@@ -203,7 +203,7 @@ module _ {D C V P F I R A T : Type 0} {G : DelegateOf D C V P F I R A T} {X : Cx
         → AreSoundResults same (verdicts X) (G.script old.cx) old.nodes old.results
         → (call : Call I) → Begins G X old.cx same call goal e.root_depth.0 starts e.limits_met old.results
         → CallIsEnclosed G X old.cx call
-        → {result : Result (Answer R) (Fault I R)} {new : Cache C I R A T}
+        → {result : Result (Answer R) (Fault I R)} {new : Cache C I R T}
         {after : Evaluation D C V P F I R A T} {later : ℕ}
         (evaluated : Evaluated G X same same_result noop looks_up kind goal old e starts result new after later)
         → (met_in_evaluation evaluated).refused ≡ false

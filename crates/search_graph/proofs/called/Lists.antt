@@ -42,7 +42,7 @@ module _ {D C V P F I R A T : Type 0} {G : DelegateOf D C V P F I R A T} {X : Cx
     {same_result : R → R → Bool} {noop : Bool} where
   -- ---- one query's call
 
-  module _ {old new : Cache C I R A T} {from to : ℕ} {query : ℕ × I × PathKind} {answer : Result (Answer R) (Fault I R)}
+  module _ {old new : Cache C I R T} {from to : ℕ} {query : ℕ × I × PathKind} {answer : Result (Answer R) (Fault I R)}
       {graph : Graph} (ran : HasRun G X same same_result (call_for noop query old from answer graph new to)) where
     run_has_answer : HasAnswer G X same new query answer
     run_has_answer =
@@ -87,10 +87,10 @@ module _ {D C V P F I R A T : Type 0} {G : DelegateOf D C V P F I R A T} {X : Cx
 
   -- ---- all of them
 
-  module _ {old : Cache C I R A T} {from : ℕ} where
+  module _ {old : Cache C I R T} {from : ℕ} where
     pub all_keep :
         {queries : List (ℕ × I × PathKind)} {answers : List (Result (Answer R) (Fault I R))}
-        {graphs : List Graph} {new : Cache C I R A T} {to : ℕ}
+        {graphs : List Graph} {new : Cache C I R T} {to : ℕ}
         → AllRan G X same same_result noop old from queries answers graphs new to → KeepsAll same old new
     all_keep NoneRan = record {
       context = refl;
@@ -110,7 +110,7 @@ module _ {D C V P F I R A T : Type 0} {G : DelegateOf D C V P F I R A T} {X : Cx
 
     pub all_start :
         {queries : List (ℕ × I × PathKind)} {answers : List (Result (Answer R) (Fault I R))}
-        {graphs : List Graph} {new : Cache C I R A T} {to : ℕ}
+        {graphs : List Graph} {new : Cache C I R T} {to : ℕ}
         → AllRan G X same same_result noop old from queries answers graphs new to → from ≤ to
     all_start NoneRan = omega arith
     all_start (ThenRan queries answers graphs mid between query answer graph new to ran last) =
@@ -118,7 +118,7 @@ module _ {D C V P F I R A T : Type 0} {G : DelegateOf D C V P F I R A T} {X : Cx
 
     pub all_within :
         {queries : List (ℕ × I × PathKind)} {answers : List (Result (Answer R) (Fault I R))} {graphs : List Graph}
-        {new : Cache C I R A T} {to : ℕ} → AllRan G X same same_result noop old from queries answers graphs new to
+        {new : Cache C I R T} {to : ℕ} → AllRan G X same same_result noop old from queries answers graphs new to
         → to ≤ from + frames_for (max 1 G.FIXPOINT_STEP_LIMIT) (G.width old.cx) queries
     all_within NoneRan = omega arith
     all_within (ThenRan queries answers graphs mid between query answer graph new to ran last) =
@@ -131,7 +131,7 @@ module _ {D C V P F I R A T : Type 0} {G : DelegateOf D C V P F I R A T} {X : Cx
 
     pub all_answered :
         {queries : List (ℕ × I × PathKind)} {answers : List (Result (Answer R) (Fault I R))} {graphs : List Graph}
-        {new : Cache C I R A T} {to : ℕ} → AllRan G X same same_result noop old from queries answers graphs new to
+        {new : Cache C I R T} {to : ℕ} → AllRan G X same same_result noop old from queries answers graphs new to
         → AllZip (HasAnswer G X same new) queries answers
     all_answered NoneRan = tt
     all_answered (ThenRan queries answers graphs mid between query answer graph new to ran last) =
@@ -143,7 +143,7 @@ module _ {D C V P F I R A T : Type 0} {G : DelegateOf D C V P F I R A T} {X : Cx
 
     pub all_shown :
         {queries : List (ℕ × I × PathKind)} {answers : List (Result (Answer R) (Fault I R))} {graphs : List Graph}
-        {new : Cache C I R A T} {to : ℕ} → AllRan G X same same_result noop old from queries answers graphs new to
+        {new : Cache C I R T} {to : ℕ} → AllRan G X same same_result noop old from queries answers graphs new to
         → AllZip (IsAnsweredQuery G X same new) queries answers
     all_shown NoneRan = tt
     all_shown (ThenRan queries answers graphs mid between query answer graph new to ran last) =
@@ -155,7 +155,7 @@ module _ {D C V P F I R A T : Type 0} {G : DelegateOf D C V P F I R A T} {X : Cx
 
     pub all_have_limits :
         {queries : List (ℕ × I × PathKind)} {answers : List (Result (Answer R) (Fault I R))} {graphs : List Graph}
-        {new : Cache C I R A T} {to : ℕ} → AllRan G X same same_result noop old from queries answers graphs new to
+        {new : Cache C I R T} {to : ℕ} → AllRan G X same same_result noop old from queries answers graphs new to
         → HasLimits G X same (met_in graphs) queries old new from to answers
     all_have_limits NoneRan = no_limits G X same old from
     all_have_limits (ThenRan queries answers graphs mid between query answer graph new to ran last) =
@@ -166,7 +166,7 @@ module _ {D C V P F I R A T : Type 0} {G : DelegateOf D C V P F I R A T} {X : Cx
 
     pub all_require_within :
         {queries : List (ℕ × I × PathKind)} {answers : List (Result (Answer R) (Fault I R))} {graphs : List Graph}
-        {new : Cache C I R A T} {to : ℕ} → AllRan G X same same_result noop old from queries answers graphs new to
+        {new : Cache C I R T} {to : ℕ} → AllRan G X same same_result noop old from queries answers graphs new to
         → (depth : ℕ) → All (λ (q : ℕ × I × PathKind). q.0 ≤ depth) queries
         → StoresWithin same depth old.results new.results
     all_require_within NoneRan = λ depth fit. StoresWithin-same same depth old.results
@@ -177,7 +177,7 @@ module _ {D C V P F I R A T : Type 0} {G : DelegateOf D C V P F I R A T} {X : Cx
 
     pub all_are_recorded :
         {queries : List (ℕ × I × PathKind)} {answers : List (Result (Answer R) (Fault I R))} {graphs : List Graph}
-        {new : Cache C I R A T} {to : ℕ} → AllRan G X same same_result noop old from queries answers graphs new to
+        {new : Cache C I R T} {to : ℕ} → AllRan G X same same_result noop old from queries answers graphs new to
         → noop ≡ false → new.results ≡ old.results
     all_are_recorded NoneRan = λ records. refl
     all_are_recorded (ThenRan queries answers graphs mid between query answer graph new to ran last) =
@@ -185,7 +185,7 @@ module _ {D C V P F I R A T : Type 0} {G : DelegateOf D C V P F I R A T} {X : Cx
 
     pub all_called :
         {queries : List (ℕ × I × PathKind)} {answers : List (Result (Answer R) (Fault I R))} {graphs : List Graph}
-        {new : Cache C I R A T} {to : ℕ} → AllRan G X same same_result noop old from queries answers graphs new to
+        {new : Cache C I R T} {to : ℕ} → AllRan G X same same_result noop old from queries answers graphs new to
         → AllZip (WasCalled G X same same_result noop) queries answers
     all_called NoneRan = tt
     all_called (ThenRan queries answers graphs mid between query answer graph new to ran last) =

@@ -70,11 +70,11 @@ reached_stepped {G = G} {X = X} {cx = cx} {received = received} {request = reque
     subst (AreReached (G.script cx) top) (sym (fates_stepped G X cx old new received request stepped)) all
 
 module _ {D C V P F I R A T : Type 0} {G : DelegateOf D C V P F I R A T} {X : CxOf C I R A T} {same : I → I → Bool}
-    {same_result : R → R → Bool} {noop : Bool} {received : Received R} {old : Cache C I R A T}
+    {same_result : R → R → Bool} {noop : Bool} {received : Received R} {old : Cache C I R T}
     {e : Evaluation D C V P F I R A T} {starts : ℕ} (right : IsRightFor G X same old.cx received old e) (call : Call I)
     (awaits : Awaits G X same old.cx call received old e starts)
     (top : I) (all : AreReached (G.script old.cx) top (fates_of e.goals)) where
-  move_reaches : {result : Result (Next R) (Fault I R)} {new : Cache C I R A T} {after : Evaluation D C V P F I R A T}
+  move_reaches : {result : Result (Next R) (Fault I R)} {new : Cache C I R T} {after : Evaluation D C V P F I R A T}
       {later : ℕ} → Advanced G X same same_result noop received old e starts result new after later
       → OnOk result (AreReached (G.script old.cx) top (fates_of after.goals))
   move_reaches (FrameFailed fault goals failed) = tt
@@ -100,7 +100,7 @@ module _ {D C V P F I R A T : Type 0} {G : DelegateOf D C V P F I R A T} {X : Cx
       (sym (fates_of_candidates request goals noted notes)) (reached_stepped top stepped all)
   move_reaches (NotNoted request goals left stepped) = tt
 
-  turn_reaches : {result : Result (Next R) (Fault I R)} {new : Cache C I R A T} {after : Evaluation D C V P F I R A T}
+  turn_reaches : {result : Result (Next R) (Fault I R)} {new : Cache C I R T} {after : Evaluation D C V P F I R A T}
       {later : ℕ} → Turned G X same same_result noop received old e starts result new after later
       → OnOk result (AreReached (G.script old.cx) top (fates_of after.goals))
   turn_reaches (GoesOn given mid new between after later advanced goes is first stored) =
@@ -114,9 +114,9 @@ module _ {D C V P F I R A T : Type 0} {G : DelegateOf D C V P F I R A T} {X : Cx
 -- a turn, told of a context that its cache has, too
 reaches_over :
     {D C V P F I R A T : Type 0} {G : DelegateOf D C V P F I R A T} {X : CxOf C I R A T} {same : I → I → Bool}
-    {same_result : R → R → Bool} {noop : Bool} {cx : C} {given : Received R} {mid : Cache C I R A T}
+    {same_result : R → R → Bool} {noop : Bool} {cx : C} {given : Received R} {mid : Cache C I R T}
     {between : Evaluation D C V P F I R A T} {now : ℕ} (context : mid.cx ≡ cx) (call : Call I) (top : I)
-    {result : Result (Next R) (Fault I R)} {new : Cache C I R A T} {after : Evaluation D C V P F I R A T} {later : ℕ}
+    {result : Result (Next R) (Fault I R)} {new : Cache C I R T} {after : Evaluation D C V P F I R A T} {later : ℕ}
     (turned : Turned G X same same_result noop given mid between now result new after later)
     → IsRightFor G X same cx given mid between → Awaits G X same cx call given mid between now
     → AreReached (G.script cx) top (fates_of between.goals)
@@ -130,11 +130,11 @@ reaches_over {G = G} {X = X} {same = same} {given = given} {mid = mid} {between 
 
 module _ {D C V P F I R A T : Type 0} {G : DelegateOf D C V P F I R A T} {X : CxOf C I R A T} {same : I → I → Bool}
     {same_result : R → R → Bool} {noop : Bool} (laws : AreLaws G X same same_result) {kind : PathKind} {goal : I}
-    {fate : Fate R} {old : Cache C I R A T} {e : Evaluation D C V P F I R A T} {starts : ℕ}
+    {fate : Fate R} {old : Cache C I R T} {e : Evaluation D C V P F I R A T} {starts : ℕ}
     (outset : IsAtOutset old e) (are_runs : AreRuns (verdicts X) (G.script old.cx) old.nodes)
     (sound : AreSoundResults same (verdicts X) (G.script old.cx) old.nodes old.results) where
   pub ran_reaches :
-      {result : Result (Next R) (Fault I R)} {new : Cache C I R A T} {after : Evaluation D C V P F I R A T} {later : ℕ}
+      {result : Result (Next R) (Fault I R)} {new : Cache C I R T} {after : Evaluation D C V P F I R A T} {later : ℕ}
       → Ran G X same same_result noop kind goal fate old e starts result new after later
       → OnOk result (AreReached (G.script old.cx) goal (fates_of after.goals))
   ran_reaches (Began goals held nodes later pushes fates holds nodes_kept one counted) =

@@ -44,8 +44,8 @@ counts_first last old new counted =
 
 module _ {D C V P F I R A T : Type 0} {G : DelegateOf D C V P F I R A T} {X : CxOf C I R A T} {same : I → I → Bool}
     {same_result : R → R → Bool} (counts : G.counts ≡ true) where
-  end_counts : {outcome : R} {old : Cache C I R A T} {e : Evaluation D C V P F I R A T} {starts : ℕ}
-      {result : Result (Next R) (Fault I R)} {new : Cache C I R A T} {after : Evaluation D C V P F I R A T} {later : ℕ}
+  end_counts : {outcome : R} {old : Cache C I R T} {e : Evaluation D C V P F I R A T} {starts : ℕ}
+      {result : Result (Next R) (Fault I R)} {new : Cache C I R T} {after : Evaluation D C V P F I R A T} {later : ℕ}
       → RunEnds G X same same_result outcome old e starts result new after later → starts ≤ later
   end_counts {starts = starts} (EndedDone entry run reason result new after comes pop) = le_refl starts
   end_counts {starts = starts} (EndedAtLimit entry run result new after comes pop) = le_refl starts
@@ -54,8 +54,8 @@ module _ {D C V P F I R A T : Type 0} {G : DelegateOf D C V P F I R A T} {X : Cx
 
 module _ {D C V P F I R A T : Type 0} {G : DelegateOf D C V P F I R A T} {X : CxOf C I R A T} {same : I → I → Bool}
     {cx : C} {kind : PathKind} {goal : I} {noop : Bool} (counts : G.counts ≡ true) where
-  question_counts : {old : Cache C I R A T} {e : Evaluation D C V P F I R A T} {starts : ℕ} {received : Received R}
-      {new : Cache C I R A T} {after : Evaluation D C V P F I R A T} {later : ℕ}
+  question_counts : {old : Cache C I R T} {e : Evaluation D C V P F I R A T} {starts : ℕ} {received : Received R}
+      {new : Cache C I R T} {after : Evaluation D C V P F I R A T} {later : ℕ}
       → AskingLeadsTo G X same cx kind goal noop old e starts received new after later → starts ≤ later
   question_counts {starts = starts} (Refused goals none noted) = le_refl starts
   question_counts {starts = starts} (ByEntry depth entry goals has_depth found answers nests) = le_refl starts
@@ -69,8 +69,8 @@ module _ {D C V P F I R A T : Type 0} {G : DelegateOf D C V P F I R A T} {X : Cx
 module _ {D C V P F I R A T : Type 0} {G : DelegateOf D C V P F I R A T} {X : CxOf C I R A T} {same : I → I → Bool}
     {same_result : R → R → Bool} {noop : Bool} (counts : G.counts ≡ true) where
   -- a move that does not fail starts frames, and takes none back
-  move_counts : {received : Received R} {old : Cache C I R A T} {e : Evaluation D C V P F I R A T} {starts : ℕ}
-      {result : Result (Next R) (Fault I R)} {new : Cache C I R A T} {after : Evaluation D C V P F I R A T} {later : ℕ}
+  move_counts : {received : Received R} {old : Cache C I R T} {e : Evaluation D C V P F I R A T} {starts : ℕ}
+      {result : Result (Next R) (Fault I R)} {new : Cache C I R T} {after : Evaluation D C V P F I R A T} {later : ℕ}
       → Advanced G X same same_result noop received old e starts result new after later
       → IfOk result (λ next. starts ≤ later)
   move_counts (FrameFailed fault goals failed) = tt
@@ -84,8 +84,8 @@ module _ {D C V P F I R A T : Type 0} {G : DelegateOf D C V P F I R A T} {X : Cx
   move_counts {starts = starts} (Noted request goals noted stepped about notes) = le_refl starts
   move_counts (NotNoted request goals left stepped) = tt
 
-  turn_counts : {received : Received R} {old : Cache C I R A T} {e : Evaluation D C V P F I R A T} {starts : ℕ}
-      {result : Result (Next R) (Fault I R)} {new : Cache C I R A T} {after : Evaluation D C V P F I R A T} {later : ℕ}
+  turn_counts : {received : Received R} {old : Cache C I R T} {e : Evaluation D C V P F I R A T} {starts : ℕ}
+      {result : Result (Next R) (Fault I R)} {new : Cache C I R T} {after : Evaluation D C V P F I R A T} {later : ℕ}
       → Turned G X same same_result noop received old e starts result new after later
       → IfOk result (λ next. starts ≤ later)
   turn_counts (GoesOn given mid new between after later advanced goes is first stored) = move_counts advanced
@@ -94,8 +94,8 @@ module _ {D C V P F I R A T : Type 0} {G : DelegateOf D C V P F I R A T} {X : Cx
   turn_counts (Failed fault mid new between after later advanced goes is) = tt
   turn_counts (FailedForGood fault new between after later advanced is) = tt
 
-  ran_counts : {kind : PathKind} {goal : I} {fate : Fate R} {old : Cache C I R A T} {e : Evaluation D C V P F I R A T}
-      {starts : ℕ} {result : Result (Next R) (Fault I R)} {new : Cache C I R A T}
+  ran_counts : {kind : PathKind} {goal : I} {fate : Fate R} {old : Cache C I R T} {e : Evaluation D C V P F I R A T}
+      {starts : ℕ} {result : Result (Next R) (Fault I R)} {new : Cache C I R T}
       {after : Evaluation D C V P F I R A T} {later : ℕ}
       → Ran G X same same_result noop kind goal fate old e starts result new after later
       → IfOk result (λ next. HasCounted G.last starts later 1)
@@ -142,8 +142,8 @@ module _ {D C V P F I R A T : Type 0} (G : DelegateOf D C V P F I R A T)
 
 module _ {D C V P F I R A T : Type 0} {G : DelegateOf D C V P F I R A T} {X : CxOf C I R A T}
     {same : I → I → Bool} {same_result : R → R → Bool} where
-  end_comes : {outcome : R} {old : Cache C I R A T} {e : Evaluation D C V P F I R A T} {starts : ℕ}
-      {result : Result (Next R) (Fault I R)} {new : Cache C I R A T} {after : Evaluation D C V P F I R A T} {later : ℕ}
+  end_comes : {outcome : R} {old : Cache C I R T} {e : Evaluation D C V P F I R A T} {starts : ℕ}
+      {result : Result (Next R) (Fault I R)} {new : Cache C I R T} {after : Evaluation D C V P F I R A T} {later : ℕ}
       → RunEnds G X same same_result outcome old e starts result new after later
       → NewestComesTo (G.script old.cx) (G.fixpoint_overflow old.cx) e.goals outcome
       → IfOk result (λ next. IfAnswer next (NewestComesTo (G.script old.cx) (G.fixpoint_overflow old.cx) e.goals))
@@ -159,10 +159,10 @@ module _ {D C V P F I R A T : Type 0} {G : DelegateOf D C V P F I R A T} {X : Cx
   end_comes (RanAgain entry run new after later comes keeps reran counted) h = tt
   end_comes (NotRunAgain entry run new after later comes keeps) h = tt
 
-  module _ {noop : Bool} {received : Received R} {old : Cache C I R A T} {e : Evaluation D C V P F I R A T} {starts : ℕ}
+  module _ {noop : Bool} {received : Received R} {old : Cache C I R T} {e : Evaluation D C V P F I R A T} {starts : ℕ}
       (right : IsRightFor G X same old.cx received old e) (call : Call I)
       (awaits : Awaits G X same old.cx call received old e starts) where
-    move_comes : {result : Result (Next R) (Fault I R)} {new : Cache C I R A T} {after : Evaluation D C V P F I R A T}
+    move_comes : {result : Result (Next R) (Fault I R)} {new : Cache C I R T} {after : Evaluation D C V P F I R A T}
         {later : ℕ} → Advanced G X same same_result noop received old e starts result new after later
         → IfOk result (λ next. IfAnswer next (NewestComesTo (G.script old.cx) (G.fixpoint_overflow old.cx) e.goals))
     move_comes (FrameFailed fault goals failed) = tt
@@ -186,7 +186,7 @@ module _ {D C V P F I R A T : Type 0} {G : DelegateOf D C V P F I R A T} {X : Cx
     move_comes (Noted request goals noted stepped about notes) = tt
     move_comes (NotNoted request goals left stepped) = tt
 
-    turn_comes : {result : Result (Next R) (Fault I R)} {new : Cache C I R A T} {after : Evaluation D C V P F I R A T}
+    turn_comes : {result : Result (Next R) (Fault I R)} {new : Cache C I R T} {after : Evaluation D C V P F I R A T}
         {later : ℕ} → Turned G X same same_result noop received old e starts result new after later
         → IfOk result (λ next. IfAnswer next (NewestComesTo (G.script old.cx) (G.fixpoint_overflow old.cx) e.goals))
     turn_comes (GoesOn given mid new between after later advanced goes is first stored) = tt
@@ -197,8 +197,8 @@ module _ {D C V P F I R A T : Type 0} {G : DelegateOf D C V P F I R A T} {X : Cx
 
   -- a turn, told of a context that its cache has, too
   comes_over :
-      {noop : Bool} {cx : C} {given : Received R} {mid : Cache C I R A T} {between : Evaluation D C V P F I R A T}
-      {now : ℕ} (context : mid.cx ≡ cx) (call : Call I) {result : Result (Next R) (Fault I R)} {new : Cache C I R A T}
+      {noop : Bool} {cx : C} {given : Received R} {mid : Cache C I R T} {between : Evaluation D C V P F I R A T}
+      {now : ℕ} (context : mid.cx ≡ cx) (call : Call I) {result : Result (Next R) (Fault I R)} {new : Cache C I R T}
       {after : Evaluation D C V P F I R A T} {later : ℕ}
       (turned : Turned G X same same_result noop given mid between now result new after later)
       → IsRightFor G X same cx given mid between → Awaits G X same cx call given mid between now
@@ -209,10 +209,10 @@ module _ {D C V P F I R A T : Type 0} {G : DelegateOf D C V P F I R A T} {X : Cx
       (λ right awaits. turn_comes right call awaits turned)
 
   module _ {noop : Bool} (laws : AreLaws G X same same_result) {kind : PathKind} {goal : I} {fate : Fate R}
-      {old : Cache C I R A T} {e : Evaluation D C V P F I R A T} {starts : ℕ}
+      {old : Cache C I R T} {e : Evaluation D C V P F I R A T} {starts : ℕ}
       (outset : IsAtOutset old e) (are_runs : AreRuns (verdicts X) (G.script old.cx) old.nodes)
       (sound : AreSoundResults same (verdicts X) (G.script old.cx) old.nodes old.results) where
-    ran_comes : {answer : Answer R} {new : Cache C I R A T} {after : Evaluation D C V P F I R A T} {later : ℕ}
+    ran_comes : {answer : Answer R} {new : Cache C I R T} {after : Evaluation D C V P F I R A T} {later : ℕ}
         (result : Result (Next R) (Fault I R)) → result ≡ Ok (Finished answer)
         → Ran G X same same_result noop kind goal fate old e starts result new after later
         → ComesTo (G.script old.cx) (G.fixpoint_overflow old.cx) goal answer.result
@@ -243,11 +243,11 @@ nothing_looked_for true in_scope found hit unlooked is = absurd cc
 
 module _ {D C V P F I R A T : Type 0} {G : DelegateOf D C V P F I R A T} {X : CxOf C I R A T}
     {same : I → I → Bool} {same_result : R → R → Bool} where
-  module _ {noop looks_up : Bool} (unlooked : looks_up ≡ false) {kind : PathKind} {goal : I} {old : Cache C I R A T}
+  module _ {noop looks_up : Bool} (unlooked : looks_up ≡ false) {kind : PathKind} {goal : I} {old : Cache C I R T}
       {e : Evaluation D C V P F I R A T} {starts : ℕ} where
     evaluated_comes : AreLaws G X same same_result → IsAtOutset old e → AreRuns (verdicts X) (G.script old.cx) old.nodes
         → AreSoundResults same (verdicts X) (G.script old.cx) old.nodes old.results
-        → {result : Result (Answer R) (Fault I R)} {new : Cache C I R A T} {after : Evaluation D C V P F I R A T}
+        → {result : Result (Answer R) (Fault I R)} {new : Cache C I R T} {after : Evaluation D C V P F I R A T}
         {later : ℕ} → Evaluated G X same same_result noop looks_up kind goal old e starts result new after later
         → IfOk result (λ answer. ComesTo (G.script old.cx) (G.fixpoint_overflow old.cx) goal answer.result)
     evaluated_comes laws outset are_runs sound (WasStored hit found usable) = absurd
@@ -256,7 +256,7 @@ module _ {D C V P F I R A T : Type 0} {G : DelegateOf D C V P F I R A T} {X : Cx
         ran_comes laws outset are_runs sound (Ok (Finished answer)) refl ran
     evaluated_comes laws outset are_runs sound (WasWorkedOut (Err fault) new after later none fated ran) = tt
 
-    evaluated_starts : G.counts ≡ true → {result : Result (Answer R) (Fault I R)} {new : Cache C I R A T}
+    evaluated_starts : G.counts ≡ true → {result : Result (Answer R) (Fault I R)} {new : Cache C I R T}
         {after : Evaluation D C V P F I R A T} {later : ℕ}
         → Evaluated G X same same_result noop looks_up kind goal old e starts result new after later
         → IfOk result (λ answer. HasCounted G.last starts later 1)

@@ -41,7 +41,7 @@ IfErr-weaker (Err e) P Q so h = so e h
 
 module _ {D C V P F I R A T : Type 0} (G : DelegateOf D C V P F I R A T)
     (X : CxOf C I R A T) (same : I → I → Bool) where
-  pub HadCause-kept : (old new : Cache C I R A T) → new.cx ≡ old.cx → KeepsResults same old.results new.results
+  pub HadCause-kept : (old new : Cache C I R T) → new.cx ≡ old.cx → KeepsResults same old.results new.results
       → KeepsFinished old.nodes new.nodes → (fault : Fault I R)
       → HadCause G X same old fault → HadCause G X same new fault
   HadCause-kept old new context results nodes fault h = record {
@@ -52,7 +52,7 @@ module _ {D C V P F I R A T : Type 0} (G : DelegateOf D C V P F I R A T)
     caused = h.caused;
   }
 
-  pub HasAnswer-kept : (old new : Cache C I R A T) → new.cx ≡ old.cx → KeepsResults same old.results new.results
+  pub HasAnswer-kept : (old new : Cache C I R T) → new.cx ≡ old.cx → KeepsResults same old.results new.results
       → KeepsFinished old.nodes new.nodes → (query : ℕ × I × PathKind) (answer : Result (Answer R) (Fault I R))
       → HasAnswer G X same old query answer → HasAnswer G X same new query answer
   HasAnswer-kept old new context results nodes query answer h = record {
@@ -70,7 +70,7 @@ module _ {D C V P F I R A T : Type 0} (G : DelegateOf D C V P F I R A T)
   }
 
   -- where the cache's nodes are runs, an answer's graph is one of its goal
-  module _ (cache : Cache C I R A T) (runs_are : AreRuns (verdicts X) (G.script cache.cx) cache.nodes)
+  module _ (cache : Cache C I R T) (runs_are : AreRuns (verdicts X) (G.script cache.cx) cache.nodes)
       (clash : (goal : I) (held failed : List (Question I)) → X.proves cache.cx goal held
       → X.refutes cache.cx goal failed → Overlap held failed)
       (proved : KeepsRule X.is_yes (G.script cache.cx) (X.proves cache.cx))

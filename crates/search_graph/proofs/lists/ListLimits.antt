@@ -48,7 +48,7 @@ counted_over last before mid now later many from to h =
 module _ {D C V P F I R A T : Type 0} (G : DelegateOf D C V P F I R A T)
     (X : CxOf C I R A T) (same : I → I → Bool) where
   -- no query meets a limit
-  pub no_limits : (cache : Cache C I R A T) (starts : ℕ) → HasLimits G X same false [] cache cache starts starts []
+  pub no_limits : (cache : Cache C I R T) (starts : ℕ) → HasLimits G X same false [] cache cache starts starts []
   no_limits cache starts = record {
     decisive = λ decisive all unmet. all;
     decided = λ decisive all unmet at answer is. absurd cc;
@@ -88,7 +88,7 @@ module _ {D C V P F I R A T : Type 0} (G : DelegateOf D C V P F I R A T)
       only (suc n) found is = absurd cc
 
   -- one more query
-  pub limits_more : (queries : List (ℕ × I × PathKind)) (query : ℕ × I × PathKind) (old mid new : Cache C I R A T)
+  pub limits_more : (queries : List (ℕ × I × PathKind)) (query : ℕ × I × PathKind) (old mid new : Cache C I R T)
       (before between now : ℕ) (answers : List (Result (Answer R) (Fault I R)))
       (answer : Result (Answer R) (Fault I R)) (met later : Bool)
       → mid.cx ≡ old.cx → before ≤ between → between ≤ now

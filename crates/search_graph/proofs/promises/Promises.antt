@@ -40,7 +40,7 @@ module _ {D C V P F I R A T : Type 0} (G : DelegateOf D C V P F I R A T) (X : Cx
 
 -- a definite result whose graph leaves no other decides its goal
 pub definite_decides : {D C V P F I R A T : Type 0} (G : DelegateOf D C V P F I R A T) (X : CxOf C I R A T)
-    (cache : Cache C I R A T) (goal : I) (r : R) (node : Option NodeId)
+    (cache : Cache C I R T) (goal : I) (r : R) (node : Option NodeId)
     → (X.is_yes r ≡ true → IsProved X cache goal node) → (X.is_no r ≡ true → IsRefuted X cache goal node)
     → IsDefinite (verdicts X) r → Decides X cache.cx goal r
 definite_decides G X cache goal r node proved refuted definite = record {

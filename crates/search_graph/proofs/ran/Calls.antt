@@ -55,8 +55,8 @@ step_if (Err fault) h from = tt
 -- a turn, told of a context that its cache has, too
 module _ {D C V P F I R A T : Type 0} {G : DelegateOf D C V P F I R A T} {X : CxOf C I R A T} {same : I → I → Bool}
     {same_result : R → R → Bool} {noop : Bool} (laws : AreLaws G X same same_result) {cx : C} {given : Received R}
-    {mid : Cache C I R A T} {between : Evaluation D C V P F I R A T} {now : ℕ} (context : mid.cx ≡ cx)
-    {result : Result (Next R) (Fault I R)} {new : Cache C I R A T} {after : Evaluation D C V P F I R A T} {later : ℕ}
+    {mid : Cache C I R T} {between : Evaluation D C V P F I R A T} {now : ℕ} (context : mid.cx ≡ cx)
+    {result : Result (Next R) (Fault I R)} {new : Cache C I R T} {after : Evaluation D C V P F I R A T} {later : ℕ}
     (turned : Turned G X same same_result noop given mid between now result new after later) where
   goals_over : OnOk result
       (MovesGoals same (IsFated (G.scoped cx) (G.script cx) same mid.results noop) mid.nodes between.goals after.goals)
@@ -94,8 +94,8 @@ module _ {D C V P F I R A T : Type 0} {G : DelegateOf D C V P F I R A T} {X : Cx
           (λ here there. turned_stops laws here call there turned) right awaits
 
 -- what a call has kept so far of the cache, and the drafts, as long as it goes on
-pub record IsKept {D C V P F I R A T : Type 0} (same : I → I → Bool) (old : Cache C I R A T)
-    (goals : List (OpenGoal C F I R A T)) (result : Result (Next R) (Fault I R)) (new : Cache C I R A T)
+pub record IsKept {D C V P F I R A T : Type 0} (same : I → I → Bool) (old : Cache C I R T)
+    (goals : List (OpenGoal C F I R A T)) (result : Result (Next R) (Fault I R)) (new : Cache C I R T)
     (after : Evaluation D C V P F I R A T) : Type 0 where
   pub keeps : KeepsCache same goals old new
   pub drafts : IfStep result (λ given. HasDrafts same new after × (after.drafts.first ≡ length old.nodes))
@@ -107,13 +107,13 @@ some_call goal e starts fits = call_of goal e.root_depth.0 starts e.limits_met f
 
 module _ {D C V P F I R A T : Type 0} {G : DelegateOf D C V P F I R A T} {X : CxOf C I R A T} {same : I → I → Bool}
     {same_result : R → R → Bool} {noop : Bool} (laws : AreLaws G X same same_result) {kind : PathKind} {goal : I}
-    {fate : Fate R} {old : Cache C I R A T} {e : Evaluation D C V P F I R A T} {starts : ℕ}
+    {fate : Fate R} {old : Cache C I R T} {e : Evaluation D C V P F I R A T} {starts : ℕ}
     (outset : IsAtOutset old e) (are_runs : AreRuns (verdicts X) (G.script old.cx) old.nodes)
     (sound : AreSoundResults same (verdicts X) (G.script old.cx) old.nodes old.results) where
   -- ---- cache and drafts
 
   pub kept :
-      {result : Result (Next R) (Fault I R)} {new : Cache C I R A T} {after : Evaluation D C V P F I R A T} {later : ℕ}
+      {result : Result (Next R) (Fault I R)} {new : Cache C I R T} {after : Evaluation D C V P F I R A T} {later : ℕ}
       → Ran G X same same_result noop kind goal fate old e starts result new after later
       → IsKept same old e.goals result new after
   kept (Began goals held nodes later pushes fates holds nodes_kept one counted) = record {
@@ -137,7 +137,7 @@ module _ {D C V P F I R A T : Type 0} {G : DelegateOf D C V P F I R A T} {X : Cx
       }
 
   pub ran_keeps :
-      {result : Result (Next R) (Fault I R)} {new : Cache C I R A T} {after : Evaluation D C V P F I R A T} {later : ℕ}
+      {result : Result (Next R) (Fault I R)} {new : Cache C I R T} {after : Evaluation D C V P F I R A T} {later : ℕ}
       → Ran G X same same_result noop kind goal fate old e starts result new after later
       → KeepsCache same e.goals old new
   ran_keeps ran = (kept ran).keeps
@@ -145,7 +145,7 @@ module _ {D C V P F I R A T : Type 0} {G : DelegateOf D C V P F I R A T} {X : Cx
   -- ---- all is right
 
   pub ran_right :
-      {result : Result (Next R) (Fault I R)} {new : Cache C I R A T} {after : Evaluation D C V P F I R A T} {later : ℕ}
+      {result : Result (Next R) (Fault I R)} {new : Cache C I R T} {after : Evaluation D C V P F I R A T} {later : ℕ}
       → Ran G X same same_result noop kind goal fate old e starts result new after later
       → IfStep result (λ given. IsRightFor G X same old.cx given new after)
   ran_right (Began goals held nodes later pushes fates holds nodes_kept one counted) =
@@ -160,7 +160,7 @@ module _ {D C V P F I R A T : Type 0} {G : DelegateOf D C V P F I R A T} {X : Cx
 
   module _ (call : Call I) (at : Begins G X old.cx same call goal e.root_depth.0 starts e.limits_met old.results) where
     pub ran_waits :
-        {result : Result (Next R) (Fault I R)} {new : Cache C I R A T} {after : Evaluation D C V P F I R A T}
+        {result : Result (Next R) (Fault I R)} {new : Cache C I R T} {after : Evaluation D C V P F I R A T}
         {later : ℕ} → Ran G X same same_result noop kind goal fate old e starts result new after later
         → IfStep result (λ given. Awaits G X same old.cx call given new after later)
     ran_waits (Began goals held nodes later pushes fates holds nodes_kept one counted) = begins_waiting G X same old.cx
@@ -174,9 +174,9 @@ module _ {D C V P F I R A T : Type 0} {G : DelegateOf D C V P F I R A T} {X : Cx
 
     -- as each turn leads on
     pub then_leads :
-        {given : Received R} {mid : Cache C I R A T} {between : Evaluation D C V P F I R A T} {now : ℕ}
+        {given : Received R} {mid : Cache C I R T} {between : Evaluation D C V P F I R A T} {now : ℕ}
         → Ran G X same same_result noop kind goal fate old e starts (Ok (Step given)) mid between now
-        → {result : Result (Next R) (Fault I R)} {new : Cache C I R A T} {after : Evaluation D C V P F I R A T}
+        → {result : Result (Next R) (Fault I R)} {new : Cache C I R T} {after : Evaluation D C V P F I R A T}
         {later : ℕ} → Turned G X same same_result noop given mid between now result new after later
         → IfOk result
         (λ next. LeadsTo G X same old.cx call (work_left G X old.cx between.goals) between.goals next new after later)
@@ -185,7 +185,7 @@ module _ {D C V P F I R A T : Type 0} {G : DelegateOf D C V P F I R A T} {X : Cx
 
     -- or it stops
     pub ran_stops :
-        {result : Result (Next R) (Fault I R)} {new : Cache C I R A T} {after : Evaluation D C V P F I R A T}
+        {result : Result (Next R) (Fault I R)} {new : Cache C I R T} {after : Evaluation D C V P F I R A T}
         {later : ℕ} → Ran G X same same_result noop kind goal fate old e starts result new after later
         → IfErr result (λ fault. StopsWith G X same old.cx call fault new after later)
     ran_stops (Began goals held nodes later pushes fates holds nodes_kept one counted) = tt
@@ -199,7 +199,7 @@ module _ {D C V P F I R A T : Type 0} {G : DelegateOf D C V P F I R A T} {X : Cx
   module _ (fated : IsFated (G.scoped old.cx) (G.script old.cx) same old.results noop
       (record { goal = goal; depth = e.root_depth.0; fate = fate })) where
     pub ran_fates :
-        {result : Result (Next R) (Fault I R)} {new : Cache C I R A T} {after : Evaluation D C V P F I R A T}
+        {result : Result (Next R) (Fault I R)} {new : Cache C I R T} {after : Evaluation D C V P F I R A T}
         {later : ℕ} → Ran G X same same_result noop kind goal fate old e starts result new after later
         → IfStep result (λ given.
         KeepsFates (G.scoped old.cx) (G.script old.cx) same noop goal fate old.results after.goals new.results)
@@ -216,7 +216,7 @@ module _ {D C V P F I R A T : Type 0} {G : DelegateOf D C V P F I R A T} {X : Cx
         mid.results new.results h turns.changes turns.results after.goals moves.fates)
 
     pub ran_spares :
-        {result : Result (Next R) (Fault I R)} {new : Cache C I R A T} {after : Evaluation D C V P F I R A T}
+        {result : Result (Next R) (Fault I R)} {new : Cache C I R T} {after : Evaluation D C V P F I R A T}
         {later : ℕ} → Ran G X same same_result noop kind goal fate old e starts result new after later
         → Spares same noop fate goal old.results new.results
     ran_spares (Began goals held nodes later pushes fates holds nodes_kept one counted) =
@@ -239,7 +239,7 @@ module _ {D C V P F I R A T : Type 0} {G : DelegateOf D C V P F I R A T} {X : Cx
     module _ (call : Call I)
         (at : Begins G X old.cx same call goal e.root_depth.0 starts e.limits_met old.results) where
       pub ran_ends :
-          {result : Result (Next R) (Fault I R)} {new : Cache C I R A T} {after : Evaluation D C V P F I R A T}
+          {result : Result (Next R) (Fault I R)} {new : Cache C I R T} {after : Evaluation D C V P F I R A T}
           {later : ℕ} → Ran G X same same_result noop kind goal fate old e starts result new after later
           → IfEnd result
           (λ answer. EndsWith G X same old.cx (fate ≡ becomes.Stored) (IsOfFate fate) call answer new after later)
@@ -262,7 +262,7 @@ module _ {D C V P F I R A T : Type 0} {G : DelegateOf D C V P F I R A T} {X : Cx
   -- ---- the answer has its graph, and a fault its cause
 
   pub ran_has_graph :
-      {result : Result (Next R) (Fault I R)} {new : Cache C I R A T} {after : Evaluation D C V P F I R A T} {later : ℕ}
+      {result : Result (Next R) (Fault I R)} {new : Cache C I R T} {after : Evaluation D C V P F I R A T} {later : ℕ}
       → Ran G X same same_result noop kind goal fate old e starts result new after later
       → IfEnd result (λ answer. HasGraph (verdicts X) new.nodes goal answer.result answer.node)
   ran_has_graph (Began goals held nodes later pushes fates holds nodes_kept one counted) = tt
@@ -281,7 +281,7 @@ module _ {D C V P F I R A T : Type 0} {G : DelegateOf D C V P F I R A T} {X : Cx
       (λ answer on right. only_has_graph G X old.cx new.nodes between.goals [] goal answer on.leads.1 right)
 
   pub ran_caused :
-      {result : Result (Next R) (Fault I R)} {new : Cache C I R A T} {after : Evaluation D C V P F I R A T} {later : ℕ}
+      {result : Result (Next R) (Fault I R)} {new : Cache C I R T} {after : Evaluation D C V P F I R A T} {later : ℕ}
       → Ran G X same same_result noop kind goal fate old e starts result new after later
       → IfErr result (IsCaused G X same new)
   ran_caused (Began goals held nodes later pushes fates holds nodes_kept one counted) = tt
@@ -295,7 +295,7 @@ module _ {D C V P F I R A T : Type 0} {G : DelegateOf D C V P F I R A T} {X : Cx
   -- ---- which goals hold scopes
 
   pub ran_scopes :
-      {result : Result (Next R) (Fault I R)} {new : Cache C I R A T} {after : Evaluation D C V P F I R A T} {later : ℕ}
+      {result : Result (Next R) (Fault I R)} {new : Cache C I R T} {after : Evaluation D C V P F I R A T} {later : ℕ}
       → Ran G X same same_result noop kind goal fate old e starts result new after later
       → IfOk result (λ next. HoldScopesNext next after.goals after.scopes)
   ran_scopes (Began goals held nodes later pushes fates holds nodes_kept one counted) =
@@ -306,7 +306,7 @@ module _ {D C V P F I R A T : Type 0} {G : DelegateOf D C V P F I R A T} {X : Cx
 
   -- ---- so the next turn can be taken, which leaves less work
 
-  module _ {given : Received R} {mid : Cache C I R A T} {between : Evaluation D C V P F I R A T} {now : ℕ}
+  module _ {given : Received R} {mid : Cache C I R T} {between : Evaluation D C V P F I R A T} {now : ℕ}
       (ran : Ran G X same same_result noop kind goal fate old e starts (Ok (Step given)) mid between now) where
     pub ran_drafts : HasDrafts same mid between
     ran_drafts = (kept ran).drafts.0
@@ -328,7 +328,7 @@ module _ {D C V P F I R A T : Type 0} {G : DelegateOf D C V P F I R A T} {X : Cx
         (sym (ran_keeps ran).context) (ran_fates fated ran).expected
 
     pub ran_falls :
-        {next : Received R} {new : Cache C I R A T} {after : Evaluation D C V P F I R A T} {later : ℕ}
+        {next : Received R} {new : Cache C I R T} {after : Evaluation D C V P F I R A T} {later : ℕ}
         → Turned G X same same_result noop given mid between now (Ok (Step next)) new after later
         → work_left G X old.cx after.goals < work_left G X old.cx between.goals
     ran_falls turned = (then_leads (some_call goal e starts outset.new.fits) (some_call_begins G X old.cx same goal
@@ -338,12 +338,12 @@ module _ {D C V P F I R A T : Type 0} {G : DelegateOf D C V P F I R A T} {X : Cx
 
 module _ {D C V P F I R A T : Type 0} {G : DelegateOf D C V P F I R A T} {X : CxOf C I R A T} {same : I → I → Bool}
     {same_result : R → R → Bool} {noop : Bool} (laws : AreLaws G X same same_result) {kind : PathKind} {goal : I}
-    {fate : Fate R} {old : Cache C I R A T} {e : Evaluation D C V P F I R A T} {starts : ℕ}
+    {fate : Fate R} {old : Cache C I R T} {e : Evaluation D C V P F I R A T} {starts : ℕ}
     (outset : IsAtOutset old e) (are_runs : AreRuns (verdicts X) (G.script old.cx) old.nodes)
     (sound : AreSoundResults same (verdicts X) (G.script old.cx) old.nodes old.results)
     (fated : IsFated (G.scoped old.cx) (G.script old.cx) same old.results noop
     (record { goal = goal; depth = e.root_depth.0; fate = fate }))
-    {new : Cache C I R A T} {after : Evaluation D C V P F I R A T} {later : ℕ} where
+    {new : Cache C I R T} {after : Evaluation D C V P F I R A T} {later : ℕ} where
   call_evaluates : (result : Result (Answer R) (Fault I R))
       → Ran G X same same_result noop kind goal fate old e starts (ended result) new after later
       → Evaluates G X same old.cx (fate ≡ becomes.Stored) (IsOfFate fate) goal old e starts result new after later

@@ -24,8 +24,8 @@ none_if_popped r old new P (Err e) leaves h = tt
 module _ {D C V P F I R A T : Type 0} {G : DelegateOf D C V P F I R A T} {X : CxOf C I R A T} {same : I → I → Bool}
     {same_result : R → R → Bool} where
   none_at_end :
-      {outcome : R} {old : Cache C I R A T} {e : Evaluation D C V P F I R A T} {starts : ℕ}
-      {result : Result (Next R) (Fault I R)} {new : Cache C I R A T} {after : Evaluation D C V P F I R A T}
+      {outcome : R} {old : Cache C I R T} {e : Evaluation D C V P F I R A T} {starts : ℕ}
+      {result : Result (Next R) (Fault I R)} {new : Cache C I R T} {after : Evaluation D C V P F I R A T}
       {later : ℕ} → RunEnds G X same same_result outcome old e starts result new after later
       → IfEnd result (λ answer. after.goals ≡ [])
   none_at_end {outcome} {old} {e} (EndedDone entry run reason result new after comes pops) =
@@ -35,10 +35,10 @@ module _ {D C V P F I R A T : Type 0} {G : DelegateOf D C V P F I R A T} {X : Cx
   none_at_end (RanAgain entry run new after later comes keeps runs counts) = tt
   none_at_end (NotRunAgain entry run new after later comes keeps) = tt
 
-  module _ {noop : Bool} {received : Received R} {old : Cache C I R A T} {e : Evaluation D C V P F I R A T} {starts : ℕ}
+  module _ {noop : Bool} {received : Received R} {old : Cache C I R T} {e : Evaluation D C V P F I R A T} {starts : ℕ}
     where
       none_advanced :
-          {result : Result (Next R) (Fault I R)} {new : Cache C I R A T} {after : Evaluation D C V P F I R A T}
+          {result : Result (Next R) (Fault I R)} {new : Cache C I R T} {after : Evaluation D C V P F I R A T}
           {later : ℕ} → Advanced G X same same_result noop received old e starts result new after later
           → IfEnd result (λ answer. after.goals ≡ [])
       none_advanced (FrameFailed fault goals failed) = tt
@@ -49,7 +49,7 @@ module _ {D C V P F I R A T : Type 0} {G : DelegateOf D C V P F I R A T} {X : Cx
       none_advanced (NotNoted request goals left stepped) = tt
 
       pub none_turned :
-          {result : Result (Next R) (Fault I R)} {new : Cache C I R A T} {after : Evaluation D C V P F I R A T}
+          {result : Result (Next R) (Fault I R)} {new : Cache C I R T} {after : Evaluation D C V P F I R A T}
           {later : ℕ} → Turned G X same same_result noop received old e starts result new after later
           → IfEnd result (λ answer. after.goals ≡ [])
       none_turned (GoesOn given mid new between after later advanced goes is first stored) = tt

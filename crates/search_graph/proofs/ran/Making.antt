@@ -12,7 +12,7 @@ use Rattle.search_rules.proofs.moves.Questions.{same_err}
 use Rattle.search_state.specs.declared.evaluation.Evaluation.{Evaluation}
 
 module _ {D C V P F I R A T : Type 0} (G : DelegateOf D C V P F I R A T) (X : CxOf C I R A T) (same : I → I → Bool)
-    (same_result : R → R → Bool) (noop : Bool) (received : Received R) (old : Cache C I R A T)
+    (same_result : R → R → Bool) (noop : Bool) (received : Received R) (old : Cache C I R T)
     (e : Evaluation D C V P F I R A T) (starts : ℕ) (read : C) (reads : read ≡ old.cx) where
   pub fails_in_frame :
       (fault : Fault I R) (goals : List (OpenGoal C F I R A T)) (now : ℕ) → now ≡ starts
@@ -33,7 +33,7 @@ module _ {D C V P F I R A T : Type 0} (G : DelegateOf D C V P F I R A T) (X : Cx
     stepped_as request is = subst (λ q. HasStepped G X old.cx received q e.goals goals) is
         (subst (λ c. HasStepped G X c received made e.goals goals) reads stepped)
 
-    module _ (now : ℕ) (is_now : now ≡ starts) (new : Cache C I R A T)
+    module _ (now : ℕ) (is_now : now ≡ starts) (new : Cache C I R T)
         (after : Evaluation D C V P F I R A T) (later : ℕ) where
       module _ (kind : PathKind) (goal : I) (is : made ≡ Evaluate kind goal)
           (keeps : Asks G same old (record e { goals = goals }) new after) where

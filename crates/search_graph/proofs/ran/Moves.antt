@@ -44,7 +44,7 @@ leads_before :
     {D C V P F I R A T : Type 0} (G : DelegateOf D C V P F I R A T) (X : CxOf C I R A T) (same : I → I → Bool) (cx : C)
     (call : Call I) (received : Received R) (outcome : R) {old goals : List (OpenGoal C F I R A T)}
     → HasStepped G X cx received (Done outcome) old goals
-    → (next : Next R) {new : Cache C I R A T} {after : Evaluation D C V P F I R A T} {later : ℕ}
+    → (next : Next R) {new : Cache C I R T} {after : Evaluation D C V P F I R A T} {later : ℕ}
     → LeadsTo G X same cx call (work_left G X cx old) goals next new after later
     → LeadsTo G X same cx call (work_left G X cx old) old next new after later
 leads_before G X same cx call received outcome {old} {goals} stepped next {new} {after} {later} on = record {
@@ -58,19 +58,19 @@ leads_before G X same cx call received outcome {old} {goals} stepped next {new} 
       (fates_stepped G X cx old goals received (Done outcome) stepped) on.compared;
 }
 
-nothing_noted : {C I R A T : Type 0} (same : I → I → Bool) (cache : Cache C I R A T) (drafts : Drafts)
+nothing_noted : {C I R T : Type 0} (same : I → I → Bool) (cache : Cache C I R T) (drafts : Drafts)
     → KeepsNoted same cache drafts cache drafts
 nothing_noted same cache drafts = noted_same same cache cache drafts drafts refl refl
 
 module _ {D C V P F I R A T : Type 0} {G : DelegateOf D C V P F I R A T} {X : CxOf C I R A T} {same : I → I → Bool}
-    {same_result : R → R → Bool} {noop : Bool} {received : Received R} {old : Cache C I R A T}
+    {same_result : R → R → Bool} {noop : Bool} {received : Received R} {old : Cache C I R T}
     {e : Evaluation D C V P F I R A T} {starts : ℕ} where
   -- ---- where the newest goal awaited the reply, the call goes on,
 
   module _ (laws : AreLaws G X same same_result) (right : IsRightFor G X same old.cx received old e) where
     pub advanced_leads :
         (call : Call I) → Awaits G X same old.cx call received old e starts
-        → {result : Result (Next R) (Fault I R)} {new : Cache C I R A T} {after : Evaluation D C V P F I R A T}
+        → {result : Result (Next R) (Fault I R)} {new : Cache C I R T} {after : Evaluation D C V P F I R A T}
         {later : ℕ} → Advanced G X same same_result noop received old e starts result new after later
         → IfOk result (λ next. LeadsTo G X same old.cx call (work_left G X old.cx e.goals) e.goals next new after later)
     advanced_leads call h (FrameFailed fault goals failed) = tt
@@ -102,7 +102,7 @@ module _ {D C V P F I R A T : Type 0} {G : DelegateOf D C V P F I R A T} {X : Cx
     -- or it stops
     pub advanced_stops :
         (call : Call I) → Awaits G X same old.cx call received old e starts
-        → {result : Result (Next R) (Fault I R)} {new : Cache C I R A T} {after : Evaluation D C V P F I R A T}
+        → {result : Result (Next R) (Fault I R)} {new : Cache C I R T} {after : Evaluation D C V P F I R A T}
         {later : ℕ} → Advanced G X same same_result noop received old e starts result new after later
         → IfErr result (λ fault. StopsWith G X same old.cx call fault new after later)
     advanced_stops call h (FrameFailed fault goals failed) =
@@ -127,7 +127,7 @@ module _ {D C V P F I R A T : Type 0} {G : DelegateOf D C V P F I R A T} {X : Cx
     -- ---- and all that comes next is right
 
     pub advanced_right :
-        {result : Result (Next R) (Fault I R)} {new : Cache C I R A T} {after : Evaluation D C V P F I R A T}
+        {result : Result (Next R) (Fault I R)} {new : Cache C I R T} {after : Evaluation D C V P F I R A T}
         {later : ℕ} → Advanced G X same same_result noop received old e starts result new after later
         → IfOk result (λ next. IsRightNext G X same old.cx e.goals next new after)
     advanced_right (FrameFailed fault goals failed) = tt
@@ -163,7 +163,7 @@ module _ {D C V P F I R A T : Type 0} {G : DelegateOf D C V P F I R A T} {X : Cx
     -- a fault has its cause, which lasts
     pub advanced_lasts :
         (call : Call I) → IsWaiting G X old.cx call received.reply e.goals starts e.limits_met
-        → {result : Result (Next R) (Fault I R)} {new : Cache C I R A T} {after : Evaluation D C V P F I R A T}
+        → {result : Result (Next R) (Fault I R)} {new : Cache C I R T} {after : Evaluation D C V P F I R A T}
         {later : ℕ} → Advanced G X same same_result noop received old e starts result new after later
         → IfErr result (HasLastingCause G X same new after.drafts)
     advanced_lasts call waiting (FrameFailed fault goals failed) =
@@ -180,7 +180,7 @@ module _ {D C V P F I R A T : Type 0} {G : DelegateOf D C V P F I R A T} {X : Cx
   -- ---- what becomes of the goals, of their results,
 
   pub advanced_goals :
-      {result : Result (Next R) (Fault I R)} {new : Cache C I R A T} {after : Evaluation D C V P F I R A T} {later : ℕ}
+      {result : Result (Next R) (Fault I R)} {new : Cache C I R T} {after : Evaluation D C V P F I R A T} {later : ℕ}
       → Advanced G X same same_result noop received old e starts result new after later
       → OnOk result (MovesGoals same (IsFated (G.scoped old.cx) (G.script old.cx) same old.results noop)
       old.nodes e.goals after.goals)
@@ -218,7 +218,7 @@ module _ {D C V P F I R A T : Type 0} {G : DelegateOf D C V P F I R A T} {X : Cx
   -- which of them hold scopes,
 
   pub advanced_scopes :
-      {result : Result (Next R) (Fault I R)} {new : Cache C I R A T} {after : Evaluation D C V P F I R A T} {later : ℕ}
+      {result : Result (Next R) (Fault I R)} {new : Cache C I R T} {after : Evaluation D C V P F I R A T} {later : ℕ}
       → HoldScopes (fates_of e.goals) e.scopes
       → Advanced G X same same_result noop received old e starts result new after later
       → IfOk result (λ next. HoldScopesNext next after.goals after.scopes)
@@ -237,7 +237,7 @@ module _ {D C V P F I R A T : Type 0} {G : DelegateOf D C V P F I R A T} {X : Cx
   -- of the cache,
 
   pub advanced_cache :
-      {result : Result (Next R) (Fault I R)} {new : Cache C I R A T} {after : Evaluation D C V P F I R A T} {later : ℕ}
+      {result : Result (Next R) (Fault I R)} {new : Cache C I R T} {after : Evaluation D C V P F I R A T} {later : ℕ}
       → Advanced G X same same_result noop received old e starts result new after later
       → ChangesCache same e.goals old new
   advanced_cache (FrameFailed fault goals failed) =
@@ -268,7 +268,7 @@ module _ {D C V P F I R A T : Type 0} {G : DelegateOf D C V P F I R A T} {X : Cx
   -- and of the drafts
 
   pub advanced_noted :
-      {result : Result (Next R) (Fault I R)} {new : Cache C I R A T} {after : Evaluation D C V P F I R A T} {later : ℕ}
+      {result : Result (Next R) (Fault I R)} {new : Cache C I R T} {after : Evaluation D C V P F I R A T} {later : ℕ}
       → Advanced G X same same_result noop received old e starts result new after later
       → KeepsNoted same old e.drafts new after.drafts
   advanced_noted (FrameFailed fault goals failed) = nothing_noted same old e.drafts

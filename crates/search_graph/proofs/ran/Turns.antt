@@ -20,14 +20,14 @@ use Rattle.search_state.specs.Drafts.{AreNotedNodes}
 use Rattle.search_state.specs.declared.evaluation.Evaluation.{Evaluation}
 
 module _ {D C V P F I R A T : Type 0} {G : DelegateOf D C V P F I R A T} {X : CxOf C I R A T} {same : I → I → Bool}
-    {same_result : R → R → Bool} {noop : Bool} {received : Received R} {old : Cache C I R A T}
+    {same_result : R → R → Bool} {noop : Bool} {received : Received R} {old : Cache C I R T}
     {e : Evaluation D C V P F I R A T} {starts : ℕ} where
   -- ---- the call
 
   module _ (laws : AreLaws G X same same_result) (right : IsRightFor G X same old.cx received old e) where
     pub turned_leads :
         (call : Call I) → Awaits G X same old.cx call received old e starts
-        → {result : Result (Next R) (Fault I R)} {new : Cache C I R A T} {after : Evaluation D C V P F I R A T}
+        → {result : Result (Next R) (Fault I R)} {new : Cache C I R T} {after : Evaluation D C V P F I R A T}
         {later : ℕ} → Turned G X same same_result noop received old e starts result new after later
         → IfOk result (λ next. LeadsTo G X same old.cx call (work_left G X old.cx e.goals) e.goals next new after later)
     turned_leads call h (GoesOn given mid new between after later advanced goes is first stored) =
@@ -42,7 +42,7 @@ module _ {D C V P F I R A T : Type 0} {G : DelegateOf D C V P F I R A T} {X : Cx
 
     pub turned_stops :
         (call : Call I) → Awaits G X same old.cx call received old e starts
-        → {result : Result (Next R) (Fault I R)} {new : Cache C I R A T} {after : Evaluation D C V P F I R A T}
+        → {result : Result (Next R) (Fault I R)} {new : Cache C I R T} {after : Evaluation D C V P F I R A T}
         {later : ℕ} → Turned G X same same_result noop received old e starts result new after later
         → IfErr result (λ fault. StopsWith G X same old.cx call fault new after later)
     turned_stops call h (GoesOn given mid new between after later advanced goes is first stored) = tt
@@ -60,7 +60,7 @@ module _ {D C V P F I R A T : Type 0} {G : DelegateOf D C V P F I R A T} {X : Cx
     -- ---- all is right, and a fault has its cause
 
     pub turned_right :
-        {result : Result (Next R) (Fault I R)} {new : Cache C I R A T} {after : Evaluation D C V P F I R A T}
+        {result : Result (Next R) (Fault I R)} {new : Cache C I R T} {after : Evaluation D C V P F I R A T}
         {later : ℕ} → Turned G X same same_result noop received old e starts result new after later
         → IfOk result (λ next. IsRightTurn G X same old.cx e.goals next new after)
     turned_right (GoesOn given mid new between after later advanced goes is first stored) =
@@ -73,7 +73,7 @@ module _ {D C V P F I R A T : Type 0} {G : DelegateOf D C V P F I R A T} {X : Cx
 
     pub turned_caused :
         (call : Call I) → IsWaiting G X old.cx call received.reply e.goals starts e.limits_met
-        → {result : Result (Next R) (Fault I R)} {new : Cache C I R A T} {after : Evaluation D C V P F I R A T}
+        → {result : Result (Next R) (Fault I R)} {new : Cache C I R T} {after : Evaluation D C V P F I R A T}
         {later : ℕ} → Turned G X same same_result noop received old e starts result new after later
         → IfErr result (IsCaused G X same new)
     turned_caused call waiting (GoesOn given mid new between after later advanced goes is first stored) = tt
@@ -86,7 +86,7 @@ module _ {D C V P F I R A T : Type 0} {G : DelegateOf D C V P F I R A T} {X : Cx
   -- ---- goals, cache and drafts
 
   pub turned_goals :
-      {result : Result (Next R) (Fault I R)} {new : Cache C I R A T} {after : Evaluation D C V P F I R A T} {later : ℕ}
+      {result : Result (Next R) (Fault I R)} {new : Cache C I R T} {after : Evaluation D C V P F I R A T} {later : ℕ}
       → Turned G X same same_result noop received old e starts result new after later
       → OnOk result (MovesGoals same (IsFated (G.scoped old.cx) (G.script old.cx) same old.results noop)
       old.nodes e.goals after.goals)
@@ -101,7 +101,7 @@ module _ {D C V P F I R A T : Type 0} {G : DelegateOf D C V P F I R A T} {X : Cx
 
   -- which goals hold scopes
   pub turned_scopes :
-      {result : Result (Next R) (Fault I R)} {new : Cache C I R A T} {after : Evaluation D C V P F I R A T} {later : ℕ}
+      {result : Result (Next R) (Fault I R)} {new : Cache C I R T} {after : Evaluation D C V P F I R A T} {later : ℕ}
       → HoldScopes (fates_of e.goals) e.scopes
       → Turned G X same same_result noop received old e starts result new after later
       → IfOk result (λ next. HoldScopesNext next after.goals after.scopes)
@@ -114,10 +114,10 @@ module _ {D C V P F I R A T : Type 0} {G : DelegateOf D C V P F I R A T} {X : Cx
   turned_scopes h (FailedForGood fault new between after later advanced is) = tt
 
   module _ (has : HasDrafts same old e) where
-    module _ {result : Result (Next R) (Fault I R)} {mid : Cache C I R A T} {between : Evaluation D C V P F I R A T}
+    module _ {result : Result (Next R) (Fault I R)} {mid : Cache C I R T} {between : Evaluation D C V P F I R A T}
         {later : ℕ} (advanced : Advanced G X same same_result noop received old e starts result mid between later) where
       -- nodes that were there before are there after a move, and what is let go after it came later
-      cache_turns : (new : Cache C I R A T) → KeepsFirst between.drafts.first mid.nodes new.nodes
+      cache_turns : (new : Cache C I R T) → KeepsFirst between.drafts.first mid.nodes new.nodes
           → new ≡ record mid { nodes = new.nodes } → TurnsCache same e old new
       cache_turns new earlier rest =
           let changes = advanced_cache advanced in
@@ -138,7 +138,7 @@ module _ {D C V P F I R A T : Type 0} {G : DelegateOf D C V P F I R A T} {X : Cx
       noted_after = (advanced_noted advanced).noted_are has.noted_are
 
     pub turned_cache :
-        {result : Result (Next R) (Fault I R)} {new : Cache C I R A T}
+        {result : Result (Next R) (Fault I R)} {new : Cache C I R T}
         {after : Evaluation D C V P F I R A T} {later : ℕ}
         → Turned G X same same_result noop received old e starts result new after later → TurnsCache same e old new
     turned_cache (GoesOn given mid new between after later advanced goes is first stored) =
@@ -151,7 +151,7 @@ module _ {D C V P F I R A T : Type 0} {G : DelegateOf D C V P F I R A T} {X : Cx
         cache_turns advanced new (λ at lower. refl) refl
 
     pub turned_drafts :
-        {result : Result (Next R) (Fault I R)} {new : Cache C I R A T} {after : Evaluation D C V P F I R A T}
+        {result : Result (Next R) (Fault I R)} {new : Cache C I R T} {after : Evaluation D C V P F I R A T}
         {later : ℕ} → Turned G X same same_result noop received old e starts result new after later
         → IfOk result (λ next. KeepsDrafts same e next new after)
     turned_drafts (GoesOn given mid new between after later advanced goes is first stored) =

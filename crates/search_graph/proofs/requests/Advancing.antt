@@ -11,7 +11,7 @@ use Rattle.search_rules.proofs.moves.Fates.{fates_stepped}
 use Rattle.search_rules.proofs.entries.Moves.{stepped_ready}
 
 module _ {D C V P F I R A T : Type 0} (G : DelegateOf D C V P F I R A T) (X : CxOf C I R A T) (same : I → I → Bool)
-    (cx : C) (cache : Cache C I R A T) (e : Evaluation D C V P F I R A T) (given : Received R) where
+    (cx : C) (cache : Cache C I R T) (e : Evaluation D C V P F I R A T) (given : Received R) where
   -- a frame that failed ends the call
   pub step_stops :
       (read : C) → read ≡ cx → (goals : List (OpenGoal C F I R A T)) (starts now : ℕ) → now ≡ starts

@@ -418,7 +418,7 @@ module _ {D C V P F I R A T : Type 0} (G : DelegateOf D C V P F I R A T)
 
 -- stored results rest on none of them
 module _ {X F I R A T : Type 0} (says : Verdicts R) (same : I → I → Bool) (nodes : List (CacheNode I R))
-    (results : Store I (StoredResult X I R A T)) where
+    (results : Store I (StoredResult I R T)) where
   pub noting_keeps_free : (request : Request I R) (mid after : List (OpenGoal X F I R A T))
       → NotesCandidate request mid after → AreFree says same nodes (runs_of mid) results
       → AreFree says same nodes (runs_of after) results

@@ -13,7 +13,7 @@ use Rattle.search_ends.proofs.moves.Said.{no_entries}
 use Rattle.search_rules.proofs.entries.Ready.{none_ready}
 
 module _ {D C V P F I R A T : Type 0} (G : DelegateOf D C V P F I R A T) (X : CxOf C I R A T) (same : I → I → Bool)
-    (cx : C) (kind : PathKind) (goal : I) (old : Cache C I R A T)
+    (cx : C) (kind : PathKind) (goal : I) (old : Cache C I R T)
     (e : Evaluation D C V P F I R A T) (is_new : IsNew e) where
   -- where no goal is under evaluation, all is right
   pub new_right : AreSoundResults same (verdicts X) (G.script cx) old.nodes old.results → IsRight G X same cx old e
@@ -28,7 +28,7 @@ module _ {D C V P F I R A T : Type 0} (G : DelegateOf D C V P F I R A T) (X : Cx
 
   -- a goal that could not be pushed ends the call
   pub never_pushed :
-      (depth : AvailableDepth) (new : Cache C I R A T) (after : Evaluation D C V P F I R A T) (starts later : ℕ)
+      (depth : AvailableDepth) (new : Cache C I R T) (after : Evaluation D C V P F I R A T) (starts later : ℕ)
       → new ≡ record old { nodes = new.nodes } → after ≡ record e { goals = after.goals; scopes = after.scopes }
       → starts ≤ later → later ≤ starts + 1
       → (call : Call I) → Begins G X cx same call goal depth.0 starts e.limits_met old.results

@@ -18,7 +18,7 @@ use Rattle.search_questions.specs.Collecting.{LetsGoAtEnd}
 use Rattle.search_state.specs.declared.evaluation.Evaluation.{Evaluation}
 
 module _ {D C V P F I R A T : Type 0} (G : DelegateOf D C V P F I R A T) (X : CxOf C I R A T) (same : I → I → Bool)
-    (cache : Cache C I R A T) (drafts : Drafts) (given : Received R)
+    (cache : Cache C I R T) (drafts : Drafts) (given : Received R)
     (goals : List (OpenGoal C F I R A T)) (starts : ℕ) (met : Bool) where
   -- where the newest goal's request was out of order, its script made it after replies that fit
   pub disorderly_script :
@@ -64,7 +64,7 @@ module _ {D C V P F I R A T : Type 0} (G : DelegateOf D C V P F I R A T) (X : Cx
 
 -- a step changes no node of the goals
 pub step_keeps_free : {D C V P F I R A T : Type 0} (G : DelegateOf D C V P F I R A T) (X : CxOf C I R A T) (cx : C)
-    (same : I → I → Bool) (nodes : List (CacheNode I R)) (results : Store I (StoredResult C I R A T))
+    (same : I → I → Bool) (nodes : List (CacheNode I R)) (results : Store I (StoredResult I R T))
     (given : Received R) (request : Request I R) (old new : List (OpenGoal C F I R A T))
     → HasStepped G X cx given request old new → AreFree (verdicts X) same nodes (runs_of old) results
     → AreFree (verdicts X) same nodes (runs_of new) results
@@ -79,7 +79,7 @@ step_keeps_free {C = C} {F = F} {I = I} {R = R} {A = A} {T = T} G X cx same node
 
 -- the cause of a fault is one still when nodes are let go at the end of the call
 pub cause_stays_at_end : {D C V P F I R A T : Type 0} (G : DelegateOf D C V P F I R A T) (X : CxOf C I R A T)
-    (same : I → I → Bool) (e : Evaluation D C V P F I R A T) (old new : Cache C I R A T) (target : Option NodeId)
+    (same : I → I → Bool) (e : Evaluation D C V P F I R A T) (old new : Cache C I R T) (target : Option NodeId)
     → LetsGoAtEnd same e target old new → (fault : Fault I R)
     → HasLastingCause G X same old e.drafts fault → IsCaused G X same new fault
 cause_stays_at_end G X same e old new target goes fault h =

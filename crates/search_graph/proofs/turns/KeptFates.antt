@@ -14,9 +14,9 @@ pub not_stored : {R : Type 0} (fate : Fate R) → fate ≡ becomes.NotStored →
 not_stored fate unstored stored = let clash : becomes.NotStored ≡ becomes.Stored = sym unstored ∙ stored in absurd cc
 
 module _ {C F I R A T : Type 0} (scopes : I → Bool) (scripts : I → List (Reply R) → Request I R) (same : I → I → Bool)
-    (noop : Bool) (input : I) (fate : Fate R) (old : Store I (StoredResult C I R A T)) where
+    (noop : Bool) (input : I) (fate : Fate R) (old : Store I (StoredResult I R T)) where
   -- the goal is the first one
-  pub first_fates : (depth : _) (none goals : List (OpenGoal C F I R A T)) (new : Store I (StoredResult C I R A T))
+  pub first_fates : (depth : _) (none goals : List (OpenGoal C F I R A T)) (new : Store I (StoredResult I R T))
       → none ≡ [] → fates_of goals ≡ record { goal = input; depth = depth; fate = fate } ∷ fates_of none
       → IsFated scopes scripts same old noop (record { goal = input; depth = depth; fate = fate }) → new ≡ old
       → KeepsFates scopes scripts same noop input fate old goals new
@@ -45,7 +45,7 @@ module _ {C F I R A T : Type 0} (scopes : I → Bool) (scripts : I → List (Rep
   only_meets goals s is r stored compared h meets = (subst (λ l. MeetsNewest (fates_of l) r) is meets) stored
       ((subst (λ l. HasOldest same input fate (fates_of l)) is h).1 ∙ compared)
 
-  module _ (goals : List (OpenGoal C F I R A T)) (mid new : Store I (StoredResult C I R A T))
+  module _ (goals : List (OpenGoal C F I R A T)) (mid new : Store I (StoredResult I R T))
       (h : KeepsFates scopes scripts same noop input fate old goals mid)
       (changes : ChangesNewest same (fates_of goals) mid new) where
     -- no result changed that isn't to be stored,

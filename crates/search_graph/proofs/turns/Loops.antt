@@ -40,14 +40,14 @@ had_none input root starts met calm definite fits goal had =
     elim had [ inl none ↦ none | inr among ↦ absurd (omega (arith, among.1)) ]
 
 -- the call of which the depths are known that stored results required before it
-abbrev pub call_over : {X I R A T : Type 0} (same : I → I → Bool) (results : Store I (StoredResult X I R A T))
+abbrev pub call_over : {I R T : Type 0} (same : I → I → Bool) (results : Store I (StoredResult I R T))
     (input : I) (root starts : ℕ) (met : Bool) → root < 2 ^ 64 → Call I
 call_over same results input root starts met fits =
     record (call_of input root starts met false false fits) { stood = required_before same results }
 
 module _ {D C V P F I R A T : Type 0} (G : DelegateOf D C V P F I R A T) (X : CxOf C I R A T) (cx : C)
     (same : I → I → Bool) (input : I) (root starts : ℕ) (met : Bool) (fits : root < 2 ^ 64)
-    (results : Store I (StoredResult C I R A T)) where
+    (results : Store I (StoredResult I R T)) where
   pub call_begins : (calm definite : Bool) → (calm ≡ true → HaveNoOverflow same results)
       → (definite ≡ true → AreDefinite (verdicts X) same results)
       → Begins G X cx same (call_of input root starts met calm definite fits) input root starts met results

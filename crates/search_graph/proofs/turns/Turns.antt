@@ -75,8 +75,8 @@ all_stay_before {I} {R} says scripts nodes runs at e lower h = node_case (slice_
 module _ {C I R A T : Type 0} (X : CxOf C I R A T) (same : I → I → Bool)
     (scripts : I → List (Reply R) → Request I R) where
   -- the nodes of stored results were there
-  stored_before : (cache : Cache C I R A T) → AreSoundResults same (verdicts X) scripts cache.nodes cache.results
-      → (goal : I) (place : Place) (s : StoredResult C I R A T) → stored_at same cache.results goal place ≡ Some s
+  stored_before : (cache : Cache C I R T) → AreSoundResults same (verdicts X) scripts cache.nodes cache.results
+      → (goal : I) (place : Place) (s : StoredResult I R T) → stored_at same cache.results goal place ≡ Some s
       → IfSome s.node (λ n. n.0 < length cache.nodes)
   stored_before cache sound goal place s at = node_case s.node refl
     where
@@ -94,7 +94,7 @@ module _ {C I R A T : Type 0} (X : CxOf C I R A T) (same : I → I → Bool)
           some_is Holds (Some y) x is h = let one : y ≡ x = cc in subst Holds one h
 
   -- the call's drafts are in order once its goal is pushed
-  pub begins_drafts : {D V P F : Type 0} (old new : Cache C I R A T) (e after : Evaluation D C V P F I R A T)
+  pub begins_drafts : {D V P F : Type 0} (old new : Cache C I R T) (e after : Evaluation D C V P F I R A T)
       → HasNoDrafts old.nodes e.drafts → AreRuns (verdicts X) scripts old.nodes
       → AreSoundResults same (verdicts X) scripts old.nodes old.results → new ≡ record old { nodes = new.nodes }
       → KeepsNodes old.nodes new.nodes → after.drafts ≡ e.drafts
@@ -123,7 +123,7 @@ module _ {C I R A T : Type 0} (X : CxOf C I R A T) (same : I → I → Bool)
 
 -- what a call has kept so far and what a turn keeps, both keep together
 pub then_turns : {D C V P F I R A T : Type 0} (same : I → I → Bool) (goals : List (OpenGoal C F I R A T))
-    (old mid new : Cache C I R A T) (e : Evaluation D C V P F I R A T) → e.drafts.first ≡ length old.nodes
+    (old mid new : Cache C I R T) (e : Evaluation D C V P F I R A T) → e.drafts.first ≡ length old.nodes
     → KeepsCache same goals old mid → TurnsCache same e mid new → KeepsCache same goals old new
 then_turns same goals old mid new e first keeps turns = record {
   context = turns.context ∙ keeps.context;
@@ -138,7 +138,7 @@ then_turns same goals old mid new e first keeps turns = record {
 }
 
 module _ {D C V P F I R A T : Type 0} (same : I → I → Bool) (before : Evaluation D C V P F I R A T)
-    (old mid new : Cache C I R A T) (has : HasDrafts same old before) (keeps : KeepsCache same before.goals old mid)
+    (old mid new : Cache C I R T) (has : HasDrafts same old before) (keeps : KeepsCache same before.goals old mid)
     (changes : ChangesNewest same (fates_of before.goals) old.results mid.results)
     (earlier : KeepsFirst before.drafts.first mid.nodes new.nodes) (rest : new ≡ record mid { nodes = new.nodes }) where
   first_kept : KeepsFirst before.drafts.first old.nodes new.nodes
@@ -171,14 +171,14 @@ module _ {D C V P F I R A T : Type 0} (same : I → I → Bool) (before : Evalua
   }
 
 -- drafts with the same nodes
-pub noted_of : {C I R A T : Type 0} (same : I → I → Bool) (cache : Cache C I R A T) (drafts later : Drafts)
+pub noted_of : {C I R T : Type 0} (same : I → I → Bool) (cache : Cache C I R T) (drafts later : Drafts)
     → later.first ≡ drafts.first → later.stored ≡ drafts.stored
     → AreNotedNodes same cache drafts → AreNotedNodes same cache later
 noted_of same cache drafts later first stored h = subst (λ n. AreRooted same n later.stored.items cache.results)
     (sym first) (subst (λ (v : Vec NodeId Global). AreRooted same drafts.first v.items cache.results) (sym stored) h)
 
 module _ {D C V P F I R A T : Type 0} (G : DelegateOf D C V P F I R A T) (X : CxOf C I R A T) (same : I → I → Bool)
-    (cx : C) (e after : Evaluation D C V P F I R A T) (mid new : Cache C I R A T) where
+    (cx : C) (e after : Evaluation D C V P F I R A T) (mid new : Cache C I R T) where
   -- ---- the newest goal gets a reply
 
   module _ (given : Received R) (goes : LetsGo same e given.node mid new)

@@ -29,8 +29,8 @@ module _ {D C V P F I R A T : Type 0} (G : DelegateOf D C V P F I R A T) (X : Cx
     (same : I → I → Bool) (cx : C) where
   -- the goals after a question
   pub asked_from :
-      (kind : PathKind) (goal : I) (old : Cache C I R A T) (e : Evaluation D C V P F I R A T) (starts : _) (noop : Bool)
-      (received : Received R) (new : Cache C I R A T) (after : Evaluation D C V P F I R A T) (later : _)
+      (kind : PathKind) (goal : I) (old : Cache C I R T) (e : Evaluation D C V P F I R A T) (starts : _) (noop : Bool)
+      (received : Received R) (new : Cache C I R T) (after : Evaluation D C V P F I R A T) (later : _)
       → AskingLeadsTo G X same cx kind goal noop old e starts received new after later
       → StayFrom old.nodes e.goals after.goals
   asked_from kind goal old e starts noop received new after later (Refused goals none noted) =
@@ -48,8 +48,8 @@ module _ {D C V P F I R A T : Type 0} (G : DelegateOf D C V P F I R A T) (X : Cx
 
   -- What becomes of their results: none is pushed but of this goal, of which this holds.
   pub asked_fates :
-      (suits : Fated I R → Type 0) (kind : PathKind) (goal : I) (old : Cache C I R A T)
-      (e : Evaluation D C V P F I R A T) (starts : _) (noop : Bool) (received : Received R) (new : Cache C I R A T)
+      (suits : Fated I R → Type 0) (kind : PathKind) (goal : I) (old : Cache C I R T)
+      (e : Evaluation D C V P F I R A T) (starts : _) (noop : Bool) (received : Received R) (new : Cache C I R T)
       (after : Evaluation D C V P F I R A T) (later : _)
       → 0 < length e.goals → ((depth : ℕ) (fate : Fate R)
       → IsFated (G.scoped cx) (G.script cx) same old.results noop (record { goal = goal; depth = depth; fate = fate })
@@ -73,8 +73,8 @@ module _ {D C V P F I R A T : Type 0} (G : DelegateOf D C V P F I R A T) (X : Cx
 
   -- which of them hold scopes
   pub asked_scopes :
-      (kind : PathKind) (goal : I) (old : Cache C I R A T) (e : Evaluation D C V P F I R A T) (starts : _) (noop : Bool)
-      (received : Received R) (new : Cache C I R A T) (after : Evaluation D C V P F I R A T) (later : _)
+      (kind : PathKind) (goal : I) (old : Cache C I R T) (e : Evaluation D C V P F I R A T) (starts : _) (noop : Bool)
+      (received : Received R) (new : Cache C I R T) (after : Evaluation D C V P F I R A T) (later : _)
       → AskingLeadsTo G X same cx kind goal noop old e starts received new after later
       → HoldScopes (fates_of e.goals) e.scopes → HoldScopes (fates_of after.goals) after.scopes
   asked_scopes kind goal old e starts noop received new after later (Refused goals none noted) =

@@ -30,7 +30,7 @@ use Rattle.search_rules.proofs.entries.Questions.{entry_fits, entry_is_one, entr
 use Rattle.search_rules.proofs.entries.Moves.{overflow_noted_ready, ready_beside, ready_pushed_goal, stored_taken_ready}
 
 module _ {D C V P F I R A T : Type 0} (G : DelegateOf D C V P F I R A T) (X : CxOf C I R A T) (same : I → I → Bool)
-    (cx : C) (kind : PathKind) (goal : I) (old : Cache C I R A T) (e : Evaluation D C V P F I R A T) (starts : ℕ) where
+    (cx : C) (kind : PathKind) (goal : I) (old : Cache C I R T) (e : Evaluation D C V P F I R A T) (starts : ℕ) where
   -- ---- the call goes on
 
   never_none : None ≡ question_depth G e → (call : Call I) (ahead : ℕ)
@@ -52,7 +52,7 @@ module _ {D C V P F I R A T : Type 0} (G : DelegateOf D C V P F I R A T) (X : Cx
   pub asked_goes_on :
       2 ≤ G.DIVIDE_AVAILABLE_DEPTH_ON_OVERFLOW → ((x y : I) → same x y ≡ true → x ≡ y) → ((x : I) → same x x ≡ true)
       → ((cycle : PathKind) (asked : I) → IsCycleResult X.is_yes X.is_no cycle (G.initial_result cx cycle asked))
-      → (noop : Bool) (received : Received R) (new : Cache C I R A T) (after : Evaluation D C V P F I R A T) (later : ℕ)
+      → (noop : Bool) (received : Received R) (new : Cache C I R T) (after : Evaluation D C V P F I R A T) (later : ℕ)
       → AskingLeadsTo G X same cx kind goal noop old e starts received new after later
       → AreReady (verdicts X) same (G.script cx) old.nodes (runs_of e.goals) e.provisional
       → (call : Call I) (ahead : ℕ) → Requests G X same cx (Evaluate kind goal) call ahead old e starts
@@ -122,7 +122,7 @@ module _ {D C V P F I R A T : Type 0} (G : DelegateOf D C V P F I R A T) (X : Cx
   -- and where memory is out the call ends
   pub asking_stops :
       2 ≤ G.DIVIDE_AVAILABLE_DEPTH_ON_OVERFLOW
-      → {new : Cache C I R A T} {after : Evaluation D C V P F I R A T} {later : ℕ}
+      → {new : Cache C I R T} {after : Evaluation D C V P F I R A T} {later : ℕ}
       → AskingFails G old e starts new after later
       → (call : Call I) (ahead : ℕ) → Requests G X same cx (Evaluate kind goal) call ahead old e starts
       → StopsWith G X same cx call Memory new after later
@@ -177,7 +177,7 @@ module _ {D C V P F I R A T : Type 0} (G : DelegateOf D C V P F I R A T) (X : Cx
   pub asked_right :
       ((x : C) (asked : I) → IsNeither X.is_yes X.is_no (G.stack_overflow x asked))
       → ((cycle : PathKind) (asked : I) → IsCycleResult X.is_yes X.is_no cycle (G.initial_result cx cycle asked))
-      → (noop : Bool) (received : Received R) (new : Cache C I R A T) (after : Evaluation D C V P F I R A T) (later : ℕ)
+      → (noop : Bool) (received : Received R) (new : Cache C I R T) (after : Evaluation D C V P F I R A T) (later : ℕ)
       → AskingLeadsTo G X same cx kind goal noop old e starts received new after later
       → NewestAsks (runs_of e.goals) kind goal → IsRight G X same cx old e → IsRightFor G X same cx received new after
   asked_right neither sorts noop received new after later (Refused goals none noted) asks h = record {

@@ -65,14 +65,14 @@ module _ (live : ℕ → Bool) where
     live_runs (s ∷ below) has =
         (live_run s (All-head (HasNodes roots) s below has), live_runs below (All-tail (HasNodes roots) s below has))
 
-  module _ {X I R A T : Type 0} (roots : List NodeId) (are : (n : NodeId) → Contains roots n → IsTrue (live n.0)) where
-    live_list : (entries : List (ProvisionalCacheEntry X I R A T))
+  module _ {I R T : Type 0} (roots : List NodeId) (are : (n : NodeId) → Contains roots n → IsTrue (live n.0)) where
+    live_list : {X A : Type 0} (entries : List (ProvisionalCacheEntry X I R A T))
         → All (λ entry. IfSome entry.node (Contains roots)) entries → All (λ entry. IsLiveNode live entry.node) entries
     live_list entries has = All-weaker (λ entry. IfSome entry.node (Contains roots))
         (λ entry. IsLiveNode live entry.node) (λ entry is. live_root live roots are entry.node is) entries has
 
     live_results : (same : I → I → Bool) (first : ℕ) → ((at : ℕ) → at < first → IsTrue (live at))
-        → (results : Store I (StoredResult X I R A T))
+        → (results : Store I (StoredResult I R T))
         → AreRooted same first roots results → AreLiveResults live same results
     live_results same first earlier results rooted goal place s at = at_node s.node (rooted goal place s at)
       where
@@ -122,7 +122,7 @@ module _ {D C V P F I R A T : Type 0} (same : I → I → Bool)
   every_list entries = All-weaker (Contains entries) (λ entry. IsLiveNode every entry.node)
       (λ entry has. every_node entry.node) entries (All-contains_itself entries)
 
-  pub nothing_goes : (old new : Cache C I R A T) → new ≡ old → LetsGo same e target old new
+  pub nothing_goes : (old new : Cache C I R T) → new ≡ old → LetsGo same e target old new
   unfolding every
   nothing_goes old new is = record {
     live = every;
@@ -155,7 +155,7 @@ module _ {D C V P F I R A T : Type 0} (same : I → I → Bool)
         (entries_at same e.provisional goal) (has.entries goal);
   }
 
-  module _ (old : Cache C I R A T) (roots : List NodeId) (noted_are : AreNotedNodes same old e.drafts) where
+  module _ (old : Cache C I R T) (roots : List NodeId) (noted_are : AreNotedNodes same old e.drafts) where
     pub rooted_among : ((n : NodeId) → Contains (noted target e.drafts.stored.items) n → Contains roots n)
         → AreRooted same e.drafts.first roots old.results
     rooted_among among goal place s at = at_node s.node (noted_are goal place s at)
@@ -168,7 +168,7 @@ module _ {D C V P F I R A T : Type 0} (same : I → I → Bool)
           | inr root ↦ inr (among n (still_noted target e.drafts.stored.items n root))
         ]
 
-  module _ (old new : Cache C I R A T) (roots : List NodeId) (is : new ≡ record old { nodes = new.nodes })
+  module _ (old new : Cache C I R T) (roots : List NodeId) (is : new ≡ record old { nodes = new.nodes })
       (earlier : (at : ℕ) → at < e.drafts.first → slice_get new.nodes at ≡ slice_get old.nodes at)
       (noted_are : AreNotedNodes same old e.drafts) (live : ℕ → Bool)
       (are : AreLive old.nodes e.drafts.first roots live) (collected : Collected live old.nodes new.nodes) where
@@ -213,7 +213,7 @@ module _ {D C V P F I R A T : Type 0} (same : I → I → Bool)
         root_is root has = noted_cases target e.drafts.stored.items root (subst (λ l. Contains l root) exactly has)
 
   -- whether there was memory or not
-  module _ (old new : Cache C I R A T) (roots : List NodeId) (noted_are : AreNotedNodes same old e.drafts)
+  module _ (old new : Cache C I R T) (roots : List NodeId) (noted_are : AreNotedNodes same old e.drafts)
       (is : new ≡ record old { nodes = new.nodes })
       (earlier : (at : ℕ) → at < e.drafts.first → slice_get new.nodes at ≡ slice_get old.nodes at) where
     pub goes_either : {E : Type 0} (result : Result (Unit {0}) E) → OnOk result
@@ -231,7 +231,7 @@ module _ {D C V P F I R A T : Type 0} (same : I → I → Bool)
 -- the same once the goals and the entries were let go
 pub gives_up :
     {D C V P F I R A T E : Type 0} (same : I → I → Bool) (e after : Evaluation D C V P F I R A T)
-    (target : Option NodeId) (old new : Cache C I R A T) (result : Result (Unit {0}) E)
+    (target : Option NodeId) (old new : Cache C I R T) (result : Result (Unit {0}) E)
     → after ≡ record e { goals = []; scopes = []; provisional = [] }
     → OnOk result (LetsGoAtEnd same after target old new) → OnOk result (LetsGoAtEnd same e target old new)
 gives_up same e after target old new (Err fault) is h = tt
@@ -251,7 +251,7 @@ gives_up same e after target old new (Ok u) is h =
 -- ---- what holds still
 
 module _ {D C V P F I R A T : Type 0} (G : DelegateOf D C V P F I R A T) (X : CxOf C I R A T) (same : I → I → Bool)
-    (cx : C) (e : Evaluation D C V P F I R A T) (old new : Cache C I R A T) where
+    (cx : C) (e : Evaluation D C V P F I R A T) (old new : Cache C I R T) where
   module _ (target : Option NodeId) (goes : LetsGo same e target old new) where
     same_results : new.results ≡ old.results
     same_results = ap (λ cache. cache.results) goes.rest

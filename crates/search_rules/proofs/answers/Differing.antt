@@ -39,8 +39,8 @@ memory_of : {I R : Type 0} (found : R) (r : Result (Unit {0}) (Fault I R)) → I
 memory_of found (Ok u) h = tt
 memory_of found (Err fault) h = subst (λ f. IfDiffers f (λ other. other ≡ found)) (sym h) tt
 
-pub storing_differs : {X I R A T : Type 0} (equal : R → R → Bool) (goal : I) (found : R)
-    (o : Option (StoredResult X I R A T)) (r : Result (Unit {0}) (Fault I R))
+pub storing_differs : {I R T : Type 0} (equal : R → R → Bool) (goal : I) (found : R)
+    (o : Option (StoredResult I R T)) (r : Result (Unit {0}) (Fault I R))
     → AnswersStoring equal goal o found r → IfErr r (λ fault. IfDiffers fault (λ other. other ≡ found))
 storing_differs equal goal found None r is = memory_of found r is
 storing_differs equal goal found (Some s) r is =
@@ -61,7 +61,7 @@ agree false true false false one other proved refuted = absurd (other refl)
 agree false false z m one other proved refuted = absurd (one refl)
 
 module _ {D C V P F I R A T : Type 0} (G : DelegateOf D C V P F I R A T) (X : CxOf C I R A T) (same : I → I → Bool)
-    (cache : Cache C I R A T) (one_of_each : HasOneOfEach (verdicts X)) where
+    (cache : Cache C I R T) (one_of_each : HasOneOfEach (verdicts X)) where
   never_fails : (goal : I) (o : Option NodeId)
       → IsSomeAnd o (λ root. IsRefutationGraph (X.refutes cache.cx) (graph_nodes_of cache.nodes) root.0 goal)
       → ((others : List (GraphNode I)) (top : ℕ) → IsRefutationGraph (X.refutes cache.cx) others top goal → ⊥) → ⊥
@@ -76,13 +76,13 @@ module _ {D C V P F I R A T : Type 0} (G : DelegateOf D C V P F I R A T) (X : Cx
 
   -- each result that is stored of the goal is yes or no
   abbrev pub IsDefiniteOf : I → Type 0
-  IsDefiniteOf goal = (place : Place) (s : StoredResult C I R A T) → stored_at same cache.results goal place ≡ Some s
+  IsDefiniteOf goal = (place : Place) (s : StoredResult I R T) → stored_at same cache.results goal place ≡ Some s
       → IsDefinite (verdicts X) s.result.result
 
   never_conflicts : (goal : I) (stored found : R) → IsDefiniteOf goal → IsDefinite (verdicts X) found
       → Conflicts G X same cache goal stored found → ⊥
   never_conflicts goal stored found definite found_definite h =
-      let there = mapped_some (λ (s : StoredResult C I R A T). s.result.result)
+      let there = mapped_some (λ (s : StoredResult I R T). s.result.result)
       (stored_at same cache.results goal h.place) stored h.is_stored in
       let stored_definite : IsDefinite (verdicts X) stored =
       subst (IsDefinite (verdicts X)) there.2 (definite h.place there.0 there.1) in

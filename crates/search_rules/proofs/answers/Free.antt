@@ -74,10 +74,10 @@ done_is_free says nodes after o below h r target s none =
 
 -- ---- all stored results
 
-module _ {X I R A T : Type 0} (says : Verdicts R) (same : I → I → Bool) where
+module _ {I R T : Type 0} (says : Verdicts R) (same : I → I → Bool) where
   -- what keeps each final answer keeps all stored results free
   all_free_kept : (nodes after : List (CacheNode I R)) (goals later : List (OpenRun I R))
-      (results : Store I (StoredResult X I R A T)) → KeepsGoals nodes after
+      (results : Store I (StoredResult I R T)) → KeepsGoals nodes after
       → ((final : List Final) → HoldOver says nodes goals [] final → HoldOver says after later [] final)
       → AreFree says same nodes goals results → AreFree says same after later results
   all_free_kept nodes after goals later results goals_kept holds all = λ goal place s at.
@@ -95,15 +95,16 @@ module _ {X I R A T : Type 0} (says : Verdicts R) (same : I → I → Bool) wher
 
   -- no goal is under evaluation
   pub all_free_nothing : (scripts : I → List (Reply R) → Request I R) (nodes : List (CacheNode I R))
-      (results : Store I (StoredResult X I R A T))
+      (results : Store I (StoredResult I R T))
       → AreSoundResults same says scripts nodes results → AreFree says same nodes [] results
   all_free_nothing scripts nodes results sound =
       λ goal place s at. free_nothing says nodes goal s.result.result s.node (sound goal place s at).graph
 
   -- a goal is pushed
   pub all_free_pushed_goal :
-      {F : Type 0} (nodes : List (CacheNode I R)) (input : I) (kind : PathKind) (depth : AvailableDepth) (own : NodeId)
-      (frame : F) (becomes : Fate R) (goals : List (OpenGoal X F I R A T)) (results : Store I (StoredResult X I R A T))
+      {F X A : Type 0} (nodes : List (CacheNode I R)) (input : I) (kind : PathKind) (depth : AvailableDepth)
+      (own : NodeId) (frame : F) (becomes : Fate R) (goals : List (OpenGoal X F I R A T))
+      (results : Store I (StoredResult I R T))
       → own.0 ≡ length nodes → NewestAsks (runs_of goals) kind input → AreJustified says nodes (runs_of goals)
       → AreFree says same nodes (runs_of goals) results → AreFree says same (nodes ++ open_node input ∷ []) (runs_of ((
         first_entry input kind depth own,
@@ -125,7 +126,7 @@ module _ {X I R A T : Type 0} (says : Verdicts R) (same : I → I → Bool) wher
   -- the newest goal's run has ended, and the goal is popped or run again
   module _ (nodes after : List (CacheNode I R)) (o : OpenRun I R) (below : List (OpenRun I R))
       (h : AreJustified says nodes (o ∷ below)) (r : R) (target : Option NodeId)
-      (s : EndsWithNode says nodes after o below r target) (results : Store I (StoredResult X I R A T))
+      (s : EndsWithNode says nodes after o below r target) (results : Store I (StoredResult I R T))
       (all : AreFree says same nodes (o ∷ below) results) where
     pub all_free_popped : AreFree says same after below results
     all_free_popped = all_free_kept nodes after (o ∷ below) below results s.goals_kept
@@ -141,7 +142,7 @@ module _ {X I R A T : Type 0} (says : Verdicts R) (same : I → I → Bool) wher
 
   -- the newest goal changes, but not its step, its provisional result and its nodes
   pub all_free_above : (nodes : List (CacheNode I R)) (o p : OpenRun I R) (below : List (OpenRun I R))
-      (results : Store I (StoredResult X I R A T))
+      (results : Store I (StoredResult I R T))
       → o.step ≡ p.step → o.provisional ≡ p.provisional → o.own ≡ p.own → o.cycles_lead ≡ p.cycles_lead
       → AreFree says same nodes (o ∷ below) results → AreFree says same nodes (p ∷ below) results
   all_free_above nodes o p below results steps earlier owns leads = all_free_kept nodes nodes (o ∷ below) (p ∷ below)
@@ -149,14 +150,14 @@ module _ {X I R A T : Type 0} (says : Verdicts R) (same : I → I → Bool) wher
 
   -- a move keeps all answers
   pub uses_kept_free : (nodes after : List (CacheNode I R)) (goals later : List (OpenRun I R))
-      (results : Store I (StoredResult X I R A T)) → KeepsUses says nodes after goals later
+      (results : Store I (StoredResult I R T)) → KeepsUses says nodes after goals later
       → AreFree says same nodes goals results → AreFree says same after later results
   uses_kept_free nodes after goals later results keeps =
       all_free_kept nodes after goals later results keeps.goals_kept (keeps.hold [])
 
   -- an answer that has no heads, and is free, is stored
-  pub all_free_stored : ((x y : I) → same x y ≡ true → x ≡ y)
-      → (nodes : List (CacheNode I R)) (goals : List (OpenRun I R)) (old new : Store I (StoredResult X I R A T))
+  pub all_free_stored : {X A : Type 0} → ((x y : I) → same x y ≡ true → x ≡ y)
+      → (nodes : List (CacheNode I R)) (goals : List (OpenRun I R)) (old new : Store I (StoredResult I R T))
       (goal : I) (answer : EvaluationResult X I R A T)
       → StoresAnswer same old new goal answer → AreFree says same nodes goals old
       → (answer.heads ≡ [] → IsFree says nodes goals goal answer.result answer.node) → AreFree says same nodes goals new

@@ -10,7 +10,7 @@ use Rattle.search_rules.proofs.answers.Free.{free_answers, uses_kept_free}
 use Rattle.search_rules.proofs.answers.Kept.{taken_keeps}
 
 module _ {X F I R A T : Type 0} (says : Verdicts R) (same : I → I → Bool) (nodes : List (CacheNode I R))
-    (results : Store I (StoredResult X I R A T)) (old new : List (OpenGoal X F I R A T)) where
+    (results : Store I (StoredResult I R T)) (old new : List (OpenGoal X F I R A T)) where
   -- the newest goal takes an answer over
   pub answered_newest_free : (step : PathKind) (required : _) (overflow : Bool) (answer : Heads)
       → AnswersNewest step required overflow answer old new → AreFree says same nodes (runs_of old) results

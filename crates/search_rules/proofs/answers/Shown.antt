@@ -9,7 +9,7 @@ use Rattle.graph_nodes.proofs.Definites.{yes_is_shown, no_is_shown}
 use Rattle.search_context.proofs.Graphs.{never_both}
 use Rattle.search_rules.specs.Words.{IsProved, IsRefuted}
 
-module _ {D C V P F I R A T : Type 0} (G : DelegateOf D C V P F I R A T) (X : CxOf C I R A T) (cache : Cache C I R A T)
+module _ {D C V P F I R A T : Type 0} (G : DelegateOf D C V P F I R A T) (X : CxOf C I R A T) (cache : Cache C I R T)
     (runs_are : AreRuns (verdicts X) (G.script cache.cx) cache.nodes)
     (clash : (goal : I) (held failed : List (Question I)) → X.proves cache.cx goal held
     → X.refutes cache.cx goal failed → Overlap held failed)

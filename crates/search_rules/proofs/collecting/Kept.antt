@@ -139,7 +139,7 @@ module _ {I R : Type 0} (says : Verdicts R) (live : ℕ → Bool) (old new : Lis
       collecting_keeps_graph live (shapes_of says old) (shapes_of says new) shapes verdict n at graph) goal r node is h
 
   pub free_stay :
-      {X A T : Type 0} (same : I → I → Bool) (goals : List (OpenRun I R)) (results : Store I (StoredResult X I R A T))
+      {T : Type 0} (same : I → I → Bool) (goals : List (OpenRun I R)) (results : Store I (StoredResult I R T))
       → AreLiveResults live same results → AreFree says same old goals results → AreFree says same new goals results
   free_stay same goals results are h goal place s at =
       has_node_stays _ _ (λ verdict n is used. collecting_keeps_use live (shapes_of says old) (shapes_of says new)

@@ -86,7 +86,7 @@ module _ {X F I R A T : Type 0} (says : Verdicts R) (before after : List (CacheN
       → IsJustifiedNext says after old new next
   given_justified new next given = justified_at rest new next refl given
 
-  free_at : (same : I → I → Bool) (results : Store I (StoredResult X I R A T)) (l new : List (OpenGoal X F I R A T))
+  free_at : (same : I → I → Bool) (results : Store I (StoredResult I R T)) (l new : List (OpenGoal X F I R A T))
       (next : Next R) → GivesAnswer entry.step_kind_from_parent (final_answer (entry, run) r target) l next new
       → AreFree says same after (runs_of l) results → AreFree says same after (runs_of new) results
   free_at same results [] new next given free =
@@ -97,7 +97,7 @@ module _ {X F I R A T : Type 0} (says : Verdicts R) (before after : List (CacheN
 
   -- the stored results rest on no goal that is left, with the answer too
   pub given_free : (same : I → I → Bool) → ((x y : I) → same x y ≡ true → x ≡ y)
-      → (results stored : Store I (StoredResult X I R A T)) (new : List (OpenGoal X F I R A T)) (next : Next R)
+      → (results stored : Store I (StoredResult I R T)) (new : List (OpenGoal X F I R A T)) (next : Next R)
       → GivesAnswer entry.step_kind_from_parent (final_answer (entry, run) r target) rest next new
       → StoresAnswer same results stored entry.input (final_answer (entry, run) r target)
       → AreFree says same before (runs_of old) results → AreFree says same after (runs_of new) stored
@@ -109,7 +109,7 @@ module _ {X F I R A T : Type 0} (says : Verdicts R) (before after : List (CacheN
       (headless_is_free says before after old entry run rest was r target h ended))
 
   -- what was stored is the newest goal's result
-  pub newest_stored : (same : I → I → Bool) (results stored : Store I (StoredResult X I R A T))
+  pub newest_stored : (same : I → I → Bool) (results stored : Store I (StoredResult I R T))
       → StoresAnswer same results stored entry.input (final_answer (entry, run) r target)
       → MayPutNewest same old r results stored
   newest_stored same results stored stores =

@@ -152,8 +152,8 @@ apart same goal other depth = at (same goal other)
     at true = refl
     at false = refl
 
-module _ {X I R A T : Type 0} (same : I → I → Bool) (by_value : (x y : I) → same x y ≡ true → x ≡ y)
-    (before after : Store I (StoredResult X I R A T)) (goal : I) (place : Place) (required : ℕ) (r : R) where
+module _ {I R T : Type 0} (same : I → I → Bool) (by_value : (x y : I) → same x y ≡ true → x ≡ y)
+    (before after : Store I (StoredResult I R T)) (goal : I) (place : Place) (required : ℕ) (r : R) where
   put_without_overflow : (of : I → Type 0) → place ≡ Success → MayPut same before after goal place required r
       → HaveNoOverflowOf of same before → HaveNoOverflowOf of same after
   put_without_overflow of success (Same is) none = subst (HaveNoOverflowOf of same) (sym is) none
@@ -169,7 +169,7 @@ module _ {X I R A T : Type 0} (same : I → I → Bool) (by_value : (x y : I) �
         | inl w ↦
             let here : Some s ≡ Some t = sym puts.here ∙ ap₂ (stored_at same after) w.0 w.1 ∙ there in
             let e : s ≡ t = cc in
-            subst (IsDefinite says) (sym result ∙ ap (λ (u : StoredResult X I R A T). u.result.result) e) definite
+            subst (IsDefinite says) (sym result ∙ ap (λ (u : StoredResult I R T). u.result.result) e) definite
         | inr unchanged ↦ all other at t (sym unchanged ∙ there)
       ]
 
@@ -182,14 +182,14 @@ module _ {X I R A T : Type 0} (same : I → I → Bool) (by_value : (x y : I) �
         | inl w ↦
             let here : Some s ≡ Some t = sym puts.here ∙ ap₂ (stored_at same after) w.0 w.1 ∙ there in
             let e : s ≡ t = cc in
-            inl (subst (λ n. n ≤ most) (sym depth ∙ ap (λ (u : StoredResult X I R A T). u.required_depth) e) fits)
+            inl (subst (λ n. n ≤ most) (sym depth ∙ ap (λ (u : StoredResult I R T). u.required_depth) e) fits)
         | inr unchanged ↦ all other at t (sym unchanged ∙ there)
       ]
 
 module _ {D C V P F I R A T : Type 0} (G : DelegateOf D C V P F I R A T) (X : CxOf C I R A T) (cx : C)
     (call : Call I) (same : I → I → Bool) where
   -- what is stored of the newest goal requires no more than the root depth
-  pub newest_within : ((x y : I) → same x y ≡ true → x ≡ y) → (before after : Store I (StoredResult C I R A T))
+  pub newest_within : ((x y : I) → same x y ≡ true → x ≡ y) → (before after : Store I (StoredResult I R T))
       (ahead : ℕ) (done r : R) (goals : List (OpenGoal C F I R A T)) (starts : ℕ) (met : Bool)
       → MayPutNewest same goals r before after → HasAsked G X cx call ahead (Done done) goals starts met
       → RequireWithin same call.root call.stood before → RequireWithin same call.root call.stood after
@@ -199,7 +199,7 @@ module _ {D C V P F I R A T : Type 0} (G : DelegateOf D C V P F I R A T) (X : Cx
       (asker_requires G X cx call ahead (Done done) s below starts met h) put all
 
   -- and as long as the call meets none, that is no overflow result
-  put_met_none : ((x y : I) → same x y ≡ true → x ≡ y) → (before after : Store I (StoredResult C I R A T)) (ahead : ℕ)
+  put_met_none : ((x y : I) → same x y ≡ true → x ≡ y) → (before after : Store I (StoredResult I R T)) (ahead : ℕ)
       (done r : R) (goals : List (OpenGoal C F I R A T)) (starts : ℕ) (met : Bool) → CallMeetsNone G X cx call met
       → MayPutNewest same goals r before after → HasAsked G X cx call ahead (Done done) goals starts met
       → HaveNoOverflowOf (HadNoOverflow call) same before → HaveNoOverflowOf (HadNoOverflow call) same after
@@ -211,7 +211,7 @@ module _ {D C V P F I R A T : Type 0} (G : DelegateOf D C V P F I R A T) (X : Cx
       (calm_of G X cx call ahead done starts met s below meets h)) put none
 
   -- the result of a run keeps what the call keeps of them,
-  pub put_keeps : ((x y : I) → same x y ≡ true → x ≡ y) → (before after : Store I (StoredResult C I R A T)) (ahead : ℕ)
+  pub put_keeps : ((x y : I) → same x y ≡ true → x ≡ y) → (before after : Store I (StoredResult I R T)) (ahead : ℕ)
       (done : R) (goals : List (OpenGoal C F I R A T)) (starts : ℕ) (met : Bool)
       → MayPutNewest same goals done before after → HasAsked G X cx call ahead (Done done) goals starts met
       → KeepsStore G X cx same call met before → KeepsStore G X cx same call met after
@@ -227,7 +227,7 @@ module _ {D C V P F I R A T : Type 0} (G : DelegateOf D C V P F I R A T) (X : Cx
   }
 
   -- and so does any result of a goal that had its most runs, which meets a limit
-  pub limited_keeps : ((x y : I) → same x y ≡ true → x ≡ y) → (before after : Store I (StoredResult C I R A T))
+  pub limited_keeps : ((x y : I) → same x y ≡ true → x ≡ y) → (before after : Store I (StoredResult I R T))
       (ahead : ℕ) (done r : R) (goals : List (OpenGoal C F I R A T)) (starts : ℕ) (met : Bool)
       → MayPutNewest same goals r before after → HasAsked G X cx call ahead (Done done) goals starts met
       → KeepsStore G X cx same call met before → KeepsStore G X cx same call true after

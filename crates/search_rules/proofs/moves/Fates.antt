@@ -142,7 +142,7 @@ module _ {I R : Type 0} (same : I → I → Bool) where
       OfNewest t below (ap (λ x. x ∷ below) first) stored others
 
 -- an answer that is stored changes the results of its goal alone
-pub storing_changes : {X I R A T : Type 0} (same : I → I → Bool) (old new : Store I (StoredResult X I R A T)) (goal : I)
+pub storing_changes : {X I R A T : Type 0} (same : I → I → Bool) (old new : Store I (StoredResult I R T)) (goal : I)
     (depth : ℕ) (answer : EvaluationResult X I R A T) → StoresAnswer same old new goal answer
     → ChangesNewest {R = R} same (record { goal = goal; depth = depth; fate = becomes.Stored } ∷ []) old new
 storing_changes same old new goal depth answer (NotStored is) = Untouched is
@@ -151,9 +151,9 @@ storing_changes same old new goal depth answer (Put token none puts) =
 
 -- ---- what results are compared with
 
-module _ {X I R A T : Type 0} (scopes : I → Bool)
+module _ {I R T : Type 0} (scopes : I → Bool)
     (scripts : I → List (Reply R) → Request I R) (same : I → I → Bool) where
-  module _ (old new : Store I (StoredResult X I R A T)) (kept : KeepsResults same old new) where
+  module _ (old new : Store I (StoredResult I R T)) (kept : KeepsResults same old new) where
     still_expected : (goal : I) (r : R) → IsExpected scopes same old goal r → IsExpected scopes same new goal r
     still_expected goal r h = record {
       in_scope = h.in_scope;
@@ -161,13 +161,13 @@ module _ {X I R A T : Type 0} (scopes : I → Bool)
       is_stored = at (stored_at same old goal h.place) refl h.is_stored;
     }
       where
-        at : (o : Option (StoredResult X I R A T)) → stored_at same old goal h.place ≡ o
+        at : (o : Option (StoredResult I R T)) → stored_at same old goal h.place ≡ o
             → option_map (λ s. s.result.result) o ≡ Some r
             → option_map (λ s. s.result.result) (stored_at same new goal h.place) ≡ Some r
         at None is none = absurd cc
         at (Some s) is some = there (stored_at same new goal h.place) s.result.result (kept goal h.place s is) ∙ some
           where
-            there : (o : Option (StoredResult X I R A T)) (r : R) → IsSomeAnd o (λ t. t.result.result ≡ r)
+            there : (o : Option (StoredResult I R T)) (r : R) → IsSomeAnd o (λ t. t.result.result ≡ r)
                 → option_map (λ s. s.result.result) o ≡ Some r
             there None r none = absurd none
             there (Some t) r is = ap Some is
@@ -186,7 +186,7 @@ module _ {X I R A T : Type 0} (scopes : I → Bool)
         (record { expected = if_still s.goal s.fate h.0.expected; plain = h.0.plain }, expected_kept below h.1)
 
   -- the goals after a move have what they are to be compared with
-  pub expected_moves : (results : Store I (StoredResult X I R A T)) (noop : Bool) (old new : List (Fated I R))
+  pub expected_moves : (results : Store I (StoredResult I R T)) (noop : Bool) (old new : List (Fated I R))
       → MovesFates same (IsFated scopes scripts same results noop) old new
       → HaveExpected scopes scripts same results old → HaveExpected scopes scripts same results new
   expected_moves results noop old new (Stay is) h = subst (HaveExpected scopes scripts same results) (sym is) h

@@ -164,7 +164,7 @@ module _ {X F I R A T : Type 0} where
       rerun_is_justified says before after (run_of (e, t.run)) (runs_of t.below) here r target s own at) h
 
   -- and stored results rest on none of them
-  pub rerun_free : (says : Verdicts R) (same : I → I → Bool) (results : Store I (StoredResult X I R A T))
+  pub rerun_free : (says : Verdicts R) (same : I → I → Bool) (results : Store I (StoredResult I R T))
       (before after : List (CacheNode I R)) (old taken new : List (OpenGoal X F I R A T)) (e : StackEntry X I R A T)
       (y : Run X F I R A T) (p : RunRecord I R) (r : R) (target : Option NodeId) (frame : F) (own : NodeId)
       → TakenFrom old e y p → taken ≡ change_newest with_no_record old
@@ -244,7 +244,7 @@ module _ {X F I R A T : Type 0} (says : Verdicts R) (before after : List (CacheN
     headless_is_free none =
         done_is_free says before after (run_of (entry, run)) (runs_of rest) (justified_then h) r target so none
 
-    pub stored_stay_free : (same : I → I → Bool) (results : Store I (StoredResult X I R A T))
+    pub stored_stay_free : (same : I → I → Bool) (results : Store I (StoredResult I R T))
         → AreFree says same before (runs_of old) results → AreFree says same after (runs_of rest) results
     stored_stay_free same results free =
         all_free_popped says same before after (run_of (entry, run)) (runs_of rest) (justified_then h) r target so

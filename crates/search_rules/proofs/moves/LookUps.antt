@@ -128,29 +128,29 @@ pub same_pair : {A B : Type 0} (x y : A × B) → x.0 ≡ y.0 → x.1 ≡ y.1 �
 same_pair x y first second = ap₂ (λ a b. (a, b)) first second
 
 -- a used result is stored of the goal
-module _ {X I R A T : Type 0} (same : I → I → Bool) (scripts : I → List (Reply R) → Request I R)
-    (results : Store I (StoredResult X I R A T)) (goal : I) (depth : ℕ) where
+module _ {I R T : Type 0} (same : I → I → Bool) (scripts : I → List (Reply R) → Request I R)
+    (results : Store I (StoredResult I R T)) (goal : I) (depth : ℕ) where
   -- what is known of it besides
   pub record IsGood (hit : Hit I R T) : Type 0 where
     pub value : hit.encountered_overflow ≡ false → IsPlain scripts goal hit.result
     pub overflow : hit.encountered_overflow ≡ true → IsBelowRank scripts goal depth
     pub within : hit.required_depth ≤ depth
 
-  good : (found : Option (CacheData X I R A T))
+  good : {X A : Type 0} (found : Option (CacheData X I R A T))
       → IfSome found (λ hit. hit.encountered_overflow ≡ false → IsPlain scripts goal hit.result)
       → IfSome found (λ hit. hit.encountered_overflow ≡ true → IsBelowRank scripts goal depth)
       → IfSome found (λ hit. hit.required_depth ≤ depth) → IfSome found (λ hit. IsGood (hit_of hit))
   good None v o w = tt
   good (Some hit) v o w = record { value = v; overflow = o; within = w }
 
-  usable_then : (found : Option (CacheData X I R A T))
+  usable_then : {X A : Type 0} (found : Option (CacheData X I R A T))
       → IfSome found (λ hit. IsGood (hit_of hit) → IsUsable same scripts results goal depth (hit_of hit))
       → IfSome found (λ hit. IsGood (hit_of hit))
       → IfSome found (λ hit. IsUsable same scripts results goal depth (hit_of hit))
   usable_then None f g = tt
   usable_then (Some hit) f g = f g
 
-  pub found_is_usable : (accepts : NestedPaths I → Bool) (found : Option (CacheData X I R A T))
+  pub found_is_usable : {X A : Type 0} (accepts : NestedPaths I → Bool) (found : Option (CacheData X I R A T))
       → option_map hit_of found ≡ first_accepted accepts (usable same results goal depth)
       → IfSome found (λ hit. hit.encountered_overflow ≡ false → IsPlain scripts goal hit.result)
       → IfSome found (λ hit. hit.encountered_overflow ≡ true → IsBelowRank scripts goal depth)

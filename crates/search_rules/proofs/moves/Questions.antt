@@ -107,7 +107,7 @@ module _ {D C V P F I R A T : Type 0} (G : DelegateOf D C V P F I R A T) (X : Cx
     )
 
     pub ask_stored :
-        (same : I → I → Bool) (results : Store I (StoredResult C I R A T)) (received : Received R) (goals new : Goals)
+        (same : I → I → Bool) (results : Store I (StoredResult I R T)) (received : Received R) (goals new : Goals)
         → Some depth.0 ≡ option_and_then (λ s. depth_below G.DIVIDE_AVAILABLE_DEPTH_ON_OVERFLOW s.0) (newest goals)
         → UsesStored same (G.script cx) results kind goal depth.0 received goals new
         → KeepsStore G X cx same call met results → HasAsked G X cx call ahead (Evaluate kind goal) goals starts met

@@ -15,7 +15,7 @@ use Rattle.search_rules.proofs.moves.DecidedGoals.{changed_decided}
 use Rattle.search_rules.proofs.moves.Moves.{asks_known, some_frames, some_runs}
 
 module _ {D C V P F I R A T : Type 0} (G : DelegateOf D C V P F I R A T) (X : CxOf C I R A T) (cx : C) (call : Call I)
-    (same : I → I → Bool) (results : Store I (StoredResult C I R A T)) where
+    (same : I → I → Bool) (results : Store I (StoredResult I R T)) where
   abbrev Goal : Type 0
   Goal = OpenGoal C F I R A T
 

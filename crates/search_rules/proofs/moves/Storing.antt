@@ -12,7 +12,7 @@ use Rattle.search_rules.specs.Words.{OtherThanStored, StoresAnswer, Put, MayPut,
 use Rattle.search_rules.specs.Results.{NotStored}
 use Rattle.search_rules.proofs.answers.Shown.{yes_is_proved, no_is_refuted}
 
-module _ {X I R A T : Type 0} (same : I → I → Bool) (old new : Store I (StoredResult X I R A T)) (goal : I)
+module _ {X I R A T : Type 0} (same : I → I → Bool) (old new : Store I (StoredResult I R T)) (goal : I)
     (answer : EvaluationResult X I R A T) where
   -- the answer was stored, or nothing was
   pub stored_either : {U E : Type 0} (token : T) (r : Result U E) → answer.heads ≡ []
@@ -29,14 +29,14 @@ module _ {X I R A T : Type 0} (same : I → I → Bool) (old new : Store I (Stor
       (subst (λ p. Puts same old new goal p (stored_from answer token)) at puts)
 
 -- what was put is stored
-pub put_is_stored : {X I R A T U E : Type 0} (same : I → I → Bool) (old new : Store I (StoredResult X I R A T))
-    (goal : I) (place : Place) (s : StoredResult X I R A T) (r : Result U E)
+pub put_is_stored : {I R T U E : Type 0} (same : I → I → Bool) (old new : Store I (StoredResult I R T))
+    (goal : I) (place : Place) (s : StoredResult I R T) (r : Result U E)
     → OnOk r (Puts same old new goal place s) → OnOk r (stored_at same new goal place ≡ Some s)
 put_is_stored same old new goal place s (Ok u) puts = puts.here
 put_is_stored same old new goal place s (Err e) puts = tt
 
 module _ {D C V P F I R A T : Type 0} (G : DelegateOf D C V P F I R A T) (X : CxOf C I R A T) (same : I → I → Bool)
-    (cache : Cache C I R A T) (runs_are : AreRuns (verdicts X) (G.script cache.cx) cache.nodes)
+    (cache : Cache C I R T) (runs_are : AreRuns (verdicts X) (G.script cache.cx) cache.nodes)
     (clash : (goal : I) (held failed : List (Question I)) → X.proves cache.cx goal held → X.refutes cache.cx goal failed
     → Overlap held failed) (proves : KeepsRule X.is_yes (G.script cache.cx) (X.proves cache.cx))
     (refutes : KeepsRule X.is_no (G.script cache.cx) (X.refutes cache.cx))
@@ -58,7 +58,7 @@ module _ {D C V P F I R A T : Type 0} (G : DelegateOf D C V P F I R A T) (X : Cx
       → option_map (λ s. s.result.result) (stored_at same cache.results goal place) ≡ Some stored → (stored ≡ found → ⊥)
       → Conflicts G X same cache goal stored found
   conflicts goal place found node has comes stored at differs =
-      let there = mapped_some (λ (s : StoredResult C I R A T). s.result.result)
+      let there = mapped_some (λ (s : StoredResult I R T). s.result.result)
       (stored_at same cache.results goal place) stored at in
       record {
         place = place;
@@ -86,7 +86,7 @@ module _ {D C V P F I R A T : Type 0} (G : DelegateOf D C V P F I R A T) (X : Cx
 
   conflict_at : (goal : I) (place : Place) (found : R) (node : Option NodeId)
       → HasGraph (verdicts X) cache.nodes goal found node
-      → ComesTo (G.script cache.cx) (G.fixpoint_overflow cache.cx) goal found → (s : StoredResult C I R A T)
+      → ComesTo (G.script cache.cx) (G.fixpoint_overflow cache.cx) goal found → (s : StoredResult I R T)
       → stored_at same cache.results goal place ≡ Some s → (b : Bool) → equal s.result.result found ≡ b
       → (r : Result (Unit {0}) (Fault I R))
       → r ≡ (if b then Ok tt else Err (Conflict goal s.result.result found)) → IfErr r (IsCaused G X same cache)
@@ -96,7 +96,7 @@ module _ {D C V P F I R A T : Type 0} (G : DelegateOf D C V P F I R A T) (X : Cx
       subst (λ x. IfErr x (IsCaused G X same cache)) (sym is)
       (OtherResult goal s.result.result found
       (conflicts goal place found node has comes s.result.result
-      (ap (option_map (λ (t : StoredResult C I R A T). t.result.result)) at)
+      (ap (option_map (λ (t : StoredResult I R T). t.result.result)) at)
       (λ e. let agrees : equal s.result.result found ≡ true = ap (equal s.result.result) (sym e)
       ∙ laws.refl s.result.result in let clashes : true ≡ false = sym agrees ∙ differs in absurd cc)) refl)
 
@@ -108,7 +108,7 @@ module _ {D C V P F I R A T : Type 0} (G : DelegateOf D C V P F I R A T) (X : Cx
   -- storing fails for want of memory, or since another result is there
   pub storing_is_caused : (goal : I) (place : Place) (found : R) (node : Option NodeId)
       → HasGraph (verdicts X) cache.nodes goal found node
-      → ComesTo (G.script cache.cx) (G.fixpoint_overflow cache.cx) goal found → (o : Option (StoredResult C I R A T))
+      → ComesTo (G.script cache.cx) (G.fixpoint_overflow cache.cx) goal found → (o : Option (StoredResult I R T))
       → stored_at same cache.results goal place ≡ o → (r : Result (Unit {0}) (Fault I R))
       → AnswersStoring equal goal o found r → IfErr r (IsCaused G X same cache)
   storing_is_caused goal place found node has comes None at r is = memory_at r is
@@ -117,12 +117,12 @@ module _ {D C V P F I R A T : Type 0} (G : DelegateOf D C V P F I R A T) (X : Cx
 
 -- where nothing changed for an error
 pub caused_after : {D C V P F I R A T : Type 0} (G : DelegateOf D C V P F I R A T) (X : CxOf C I R A T)
-    (same : I → I → Bool) (old new : Cache C I R A T) {U : Type 0} (r : Result U (Fault I R))
+    (same : I → I → Bool) (old new : Cache C I R T) {U : Type 0} (r : Result U (Fault I R))
     → OnErr r (new ≡ old) → IfErr r (IsCaused G X same old) → IfErr r (IsCaused G X same new)
 caused_after G X same old new (Ok u) unchanged h = tt
 caused_after G X same old new (Err fault) unchanged h = subst (λ c. IsCaused G X same c fault) (sym unchanged) h
 
-pub same_results : {C I R A T U E : Type 0} (r : Result U E) (old new : Cache C I R A T) → OnErr r (new ≡ old)
+pub same_results : {C I R T U E : Type 0} (r : Result U E) (old new : Cache C I R T) → OnErr r (new ≡ old)
     → OnErr r (new.results ≡ old.results)
 same_results (Ok u) old new unchanged = tt
 same_results (Err fault) old new unchanged = ap (λ c. c.results) unchanged

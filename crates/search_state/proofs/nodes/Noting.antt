@@ -51,8 +51,8 @@ still_rooted before after more first items (Some n) h = elim h [
 ]
 
 -- a result is stored, whose node was noted
-module _ {C I R A T : Type 0} (same : I → I → Bool) (old new : Cache C I R A T)
-    (by_value : (x y : I) → same x y ≡ true → x ≡ y) (input : I) (place : Place) (stored : StoredResult C I R A T)
+module _ {C I R T : Type 0} (same : I → I → Bool) (old new : Cache C I R T)
+    (by_value : (x y : I) → same x y ≡ true → x ≡ y) (input : I) (place : Place) (stored : StoredResult I R T)
     (puts : Puts same old.results new.results input place stored) where
   noted_put : (before after : Drafts) → after.first ≡ before.first
       → after.stored.items ≡ noted stored.node before.stored.items
@@ -74,7 +74,7 @@ module _ {C I R A T : Type 0} (same : I → I → Bool) (old new : Cache C I R A
       if_noted (Some n) h = inr h
 
 -- nothing is stored, and this node is noted, if there is one
-pub noted_more : {C I R A T : Type 0} (same : I → I → Bool) (cache : Cache C I R A T) (before after : Drafts)
+pub noted_more : {C I R T : Type 0} (same : I → I → Bool) (cache : Cache C I R T) (before after : Drafts)
     → after.first ≡ before.first → (more : Option NodeId) → after.stored.items ≡ noted more before.stored.items
     → KeepsNoted same cache before cache after
 noted_more same cache before after first more items = record {
@@ -89,8 +89,8 @@ noted_forgotten (Some n) nodes = take-append_seam nodes (n ∷ [])
 
 -- a result was stored, or was not, and its node was noted
 pub noted_storing :
-    {C I R A T : Type 0} (same : I → I → Bool) (old new : Cache C I R A T)
-    (by_value : (x y : I) → same x y ≡ true → x ≡ y) (input : I) (place : Place) (stored : StoredResult C I R A T)
+    {C I R T : Type 0} (same : I → I → Bool) (old new : Cache C I R T)
+    (by_value : (x y : I) → same x y ≡ true → x ≡ y) (input : I) (place : Place) (stored : StoredResult I R T)
     → (before after : Drafts) → after.first ≡ before.first → after.stored.items ≡ noted stored.node before.stored.items
     → (result : Result (Unit {0}) (Fault I R))
     → OnOk result (Puts same old.results new.results input place stored) → OnErr result (new ≡ old)
@@ -104,7 +104,7 @@ noted_storing same old new by_value input place stored before after first items 
     (noted_more same old before after first stored.node items)
 
 -- the stored results stay, and the drafts do
-pub noted_same : {C I R A T : Type 0} (same : I → I → Bool) (old new : Cache C I R A T) (before after : Drafts)
+pub noted_same : {C I R T : Type 0} (same : I → I → Bool) (old new : Cache C I R T) (before after : Drafts)
     → after ≡ before → new.results ≡ old.results → KeepsNoted same old before new after
 noted_same same old new before after is results = record {
   first = ap (λ (d : Drafts). d.first) is;
@@ -114,7 +114,7 @@ noted_same same old new before after is results = record {
 }
 
 -- one move after another
-pub noted_then : {C I R A T : Type 0} (same : I → I → Bool) (old more new : Cache C I R A T)
+pub noted_then : {C I R T : Type 0} (same : I → I → Bool) (old more new : Cache C I R T)
     (before drafts after : Drafts) → KeepsNoted same old before more drafts → KeepsNoted same more drafts new after
     → KeepsNoted same old before new after
 noted_then same old more new before drafts after one two =

@@ -25,7 +25,7 @@ call_deciding goals input root starts met fits =
 
 module _ {D C V P F I R A T : Type 0} (G : DelegateOf D C V P F I R A T) (X : CxOf C I R A T) (cx : C)
     (same : I → I → Bool) (input : I) (root starts : ℕ) (met : Bool) (fits : root < 2 ^ 64)
-    (results : Store I (StoredResult C I R A T)) where
+    (results : Store I (StoredResult I R T)) where
   call_deciding_begins : (goals : List I) → HaveNoOverflowOf (Contains goals) same results
       → AreDefinite (verdicts X) same results
       → Begins G X cx same (call_deciding goals input root starts met fits) input root starts met results
@@ -40,11 +40,11 @@ module _ {D C V P F I R A T : Type 0} (G : DelegateOf D C V P F I R A T) (X : Cx
 
 module _ {D C V P F I R A T : Type 0} {G : DelegateOf D C V P F I R A T} {X : CxOf C I R A T} {same : I → I → Bool}
     {same_result : R → R → Bool} {noop looks_up : Bool} (laws : AreLaws G X same same_result) {kind : PathKind}
-    {goal : I} {old : Cache C I R A T} {e : Evaluation D C V P F I R A T} {starts : ℕ}
+    {goal : I} {old : Cache C I R T} {e : Evaluation D C V P F I R A T} {starts : ℕ}
     (outset : IsAtOutset old e) (are_runs : AreRuns (verdicts X) (G.script old.cx) old.nodes)
     (sound : AreSoundResults same (verdicts X) (G.script old.cx) old.nodes old.results) (looks : looks_up ≡ noop) where
   evaluated_settled :
-      {result : Result (Answer R) (Fault I R)} {new : Cache C I R A T} {after : Evaluation D C V P F I R A T}
+      {result : Result (Answer R) (Fault I R)} {new : Cache C I R T} {after : Evaluation D C V P F I R A T}
       {later : ℕ} → Evaluated G X same same_result noop looks_up kind goal old e starts result new after later
       → EndsSettled G X same old.cx noop goal old e starts result new after
   evaluated_settled (WasStored hit found usable) = record {

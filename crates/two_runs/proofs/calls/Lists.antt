@@ -25,7 +25,7 @@ only_is P Q r h k (suc n) answer is = absurd cc
 module _ {D C V P F I R A T : Type 0} (G : DelegateOf D C V P F I R A T)
     (X : CxOf C I R A T) (same : I → I → Bool) where
   -- two runs stay enough over a later cache of the same context
-  pub enough_later : (goals : List I) (old new : Cache C I R A T) (depth : ℕ) (goal : I) (noop : Bool) → new.cx ≡ old.cx
+  pub enough_later : (goals : List I) (old new : Cache C I R T) (depth : ℕ) (goal : I) (noop : Bool) → new.cx ≡ old.cx
       → HaveNoOverflowOf (Contains goals) same new.results → AreDefinite (verdicts X) same new.results
       → IsSettledStore G X same old.cx goals new.nodes new.results
       → TwoRunsAreEnough G X same goals old depth goal noop → TwoRunsAreEnough G X same goals new depth goal noop
@@ -36,14 +36,14 @@ module _ {D C V P F I R A T : Type 0} (G : DelegateOf D C V P F I R A T)
     settled = subst (λ cx. IsSettledStore G X same cx goals new.nodes new.results) (sym context) settled;
   }
 
-  pub no_runs : (noop : Bool) (cache : Cache C I R A T) → TakesTwoRuns G X same noop [] cache cache []
+  pub no_runs : (noop : Bool) (cache : Cache C I R T) → TakesTwoRuns G X same noop [] cache cache []
   no_runs noop cache = record {
     stays = λ goals depth goal all enough. enough;
     answers = λ goals at answer all is. absurd cc;
   }
 
   pub runs_more : (noop : Bool) (queries : List (ℕ × I × PathKind)) (query : ℕ × I × PathKind)
-      (old mid new : Cache C I R A T) (answers : List (Result (Answer R) (Fault I R)))
+      (old mid new : Cache C I R T) (answers : List (Result (Answer R) (Fault I R)))
       (answer : Result (Answer R) (Fault I R))
       → TakesTwoRuns G X same noop queries old mid answers
       → TakesTwoRuns G X same noop (query ∷ []) mid new (answer ∷ [])
@@ -74,7 +74,7 @@ module _ {D C V P F I R A T : Type 0} {G : DelegateOf D C V P F I R A T} {X : Cx
     {same_result : R → R → Bool} {noop : Bool} where
   -- ---- one query's call
 
-  module _ {old new : Cache C I R A T} {from to : ℕ} {query : ℕ × I × PathKind} {answer : Result (Answer R) (Fault I R)}
+  module _ {old new : Cache C I R T} {from to : ℕ} {query : ℕ × I × PathKind} {answer : Result (Answer R) (Fault I R)}
       {graph : Graph} (ran : HasRun G X same same_result (call_for noop query old from answer graph new to)) where
     here :
         (goals : List I) → All (λ (q : ℕ × I × PathKind). TwoRunsAreEnough G X same goals old q.0 q.1 noop) (query ∷ [])
@@ -96,10 +96,10 @@ module _ {D C V P F I R A T : Type 0} {G : DelegateOf D C V P F I R A T} {X : Cx
 
   -- ---- all of them
 
-  module _ {old : Cache C I R A T} {from : ℕ} where
+  module _ {old : Cache C I R T} {from : ℕ} where
     pub all_take_two :
         {queries : List (ℕ × I × PathKind)} {answers : List (Result (Answer R) (Fault I R))} {graphs : List Graph}
-        {new : Cache C I R A T} {to : ℕ} → AllRan G X same same_result noop old from queries answers graphs new to
+        {new : Cache C I R T} {to : ℕ} → AllRan G X same same_result noop old from queries answers graphs new to
         → TakesTwoRuns G X same noop queries old new answers
     all_take_two NoneRan = no_runs G X same noop old
     all_take_two (ThenRan queries answers graphs mid between query answer graph new to ran last) =

@@ -18,26 +18,26 @@ use Rattle.two_runs.proofs.ends.OneKind.{HaveOneKindNext, led_keeps}
 module _ {D C V P F I R A T : Type 0} (G : DelegateOf D C V P F I R A T)
     (same : I → I → Bool) (cx : C) (call : Call I) where
   -- what is kept of what comes next, which is the stored results alone once the call has its answer
-  abbrev pub EntriesSuitNext : Next R → Store I (StoredResult C I R A T) → List (OpenGoal C F I R A T)
+  abbrev pub EntriesSuitNext : Next R → Store I (StoredResult I R T) → List (OpenGoal C F I R A T)
       → Lists I (ProvisionalCacheEntry C I R A T) → Type 0
   EntriesSuitNext (Step given) results goals entries = EntriesSuitCall G same cx call results goals entries
   EntriesSuitNext (Finished answer) results goals entries =
       StoredSuit G.ENABLE_PROVISIONAL_CACHE (G.script cx) same call.goals results
 
-  of_one_kind : (next : Next R) (results : Store I (StoredResult C I R A T)) (goals : List (OpenGoal C F I R A T))
+  of_one_kind : (next : Next R) (results : Store I (StoredResult I R T)) (goals : List (OpenGoal C F I R A T))
       (entries : Lists I (ProvisionalCacheEntry C I R A T))
       → HaveOneKindNext G same cx call next results goals entries → EntriesSuitNext next results goals entries
   of_one_kind (Step given) results goals entries kept = OneKind kept
   of_one_kind (Finished answer) results goals entries reached = inr reached
 
-  of_none : (next : Next R) (results : Store I (StoredResult C I R A T)) (goals : List (OpenGoal C F I R A T))
+  of_none : (next : Next R) (results : Store I (StoredResult I R T)) (goals : List (OpenGoal C F I R A T))
       (entries : Lists I (ProvisionalCacheEntry C I R A T)) → G.ENABLE_PROVISIONAL_CACHE ≡ false
       → ((goal : I) → entries_at same entries goal ≡ []) → EntriesSuitNext next results goals entries
   of_none (Step given) results goals entries off none = NoneUsed off none
   of_none (Finished answer) results goals entries off none = inl off
 
 module _ {D C V P F I R A T : Type 0} (G : DelegateOf D C V P F I R A T) (X : CxOf C I R A T) (same : I → I → Bool)
-    (by_value : (x y : I) → same x y ≡ true → x ≡ y) (old : Cache C I R A T) (before : Evaluation D C V P F I R A T)
+    (by_value : (x y : I) → same x y ≡ true → x ≡ y) (old : Cache C I R T) (before : Evaluation D C V P F I R A T)
     (call : Call I) (outcome : R) (suits : EntriesSuit G.ENABLE_PROVISIONAL_CACHE (G.script old.cx))
     (right : IsRight G X same old.cx old before)
     (not_lone : (s : OpenGoal C F I R A T) (below : List (OpenGoal C F I R A T)) → before.goals ≡ s ∷ below
@@ -66,7 +66,7 @@ module _ {D C V P F I R A T : Type 0} (G : DelegateOf D C V P F I R A T) (X : Cx
       (none goal)
       ∙ ap (λ l. l ++ []) (none_rebased (G.propagated old.cx goal) (G.fixpoint_overflow old.cx goal) reason stack s.0)))
 
-  pub led_keeps_entries : (same_result : R → R → Bool) (next : Next R) (new : Cache C I R A T)
+  pub led_keeps_entries : (same_result : R → R → Bool) (next : Next R) (new : Cache C I R T)
       (after : Evaluation D C V P F I R A T) → RunLeads G X same same_result outcome old before next new after
       → EntriesSuitCall G same old.cx call old.results before.goals before.provisional
       → EntriesSuitNext G same old.cx call next new.results after.goals after.provisional

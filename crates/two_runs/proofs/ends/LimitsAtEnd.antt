@@ -14,11 +14,11 @@ or_met true = refl
 or_met false = refl
 
 module _ {D C V P F I R A T : Type 0} {G : DelegateOf D C V P F I R A T} {X : CxOf C I R A T} {same : I → I → Bool}
-    {same_result : R → R → Bool} {outcome : R} {old : Cache C I R A T}
+    {same_result : R → R → Bool} {outcome : R} {old : Cache C I R T}
     {before : Evaluation D C V P F I R A T} {starts : ℕ} where
   -- it is if this end is that of a goal that had its most runs
   pub ended_meets :
-      {result : Result (Next R) (Fault I R)} {new : Cache C I R A T} {after : Evaluation D C V P F I R A T} {later : ℕ}
+      {result : Result (Next R) (Fault I R)} {new : Cache C I R T} {after : Evaluation D C V P F I R A T} {later : ℕ}
       → RunEnds G X same same_result outcome old before starts result new after later
       → MeetsLimitAtEnd G same_result outcome before after.limits_met
   ended_meets (EndedDone entry run reason result new after comes pop) =

@@ -22,7 +22,7 @@ use Rattle.two_runs.proofs.kinds.StandingApart.{apart_cleared, apart_popped}
 module _ {D C V P F I R A T : Type 0} (G : DelegateOf D C V P F I R A T)
     (same : I → I → Bool) (cx : C) (call : Call I) where
   -- what is kept of what comes next, which is the stored results alone once the call has its answer
-  abbrev pub HaveOneKindNext : Next R → Store I (StoredResult C I R A T) → List (OpenGoal C F I R A T)
+  abbrev pub HaveOneKindNext : Next R → Store I (StoredResult I R T) → List (OpenGoal C F I R A T)
       → Lists I (ProvisionalCacheEntry C I R A T) → Type 0
   HaveOneKindNext (Step given) results goals entries = HaveOneKind G same cx call results goals entries
   HaveOneKindNext (Finished answer) results goals entries = StoredReachNested (G.script cx) same call.goals results
@@ -44,7 +44,7 @@ unused_of same_result initial_kind ambiguity limit earlier usages finished_runs 
 module _ {D C V P F I R A T : Type 0} (G : DelegateOf D C V P F I R A T) (X : CxOf C I R A T) (same : I → I → Bool)
     (by_value : (x y : I) → same x y ≡ true → x ≡ y) (cx : C) (call : Call I)
     (suits : EntriesSuit G.ENABLE_PROVISIONAL_CACHE (G.script cx)) (nodes : List (CacheNode I R))
-    (results later : Store I (StoredResult C I R A T)) (reason : Option (RebaseReason C I R A T)) (r : R)
+    (results later : Store I (StoredResult I R T)) (reason : Option (RebaseReason C I R A T)) (r : R)
     (old new : Lists I (ProvisionalCacheEntry C I R A T)) where
   pub popped_keeps : (goals left : List (OpenGoal C F I R A T)) (next : Next R)
       → AreJustified (verdicts X) nodes (runs_of goals)
@@ -83,7 +83,7 @@ module _ {D C V P F I R A T : Type 0} (G : DelegateOf D C V P F I R A T) (X : Cx
       })
 
 module _ {D C V P F I R A T : Type 0} (G : DelegateOf D C V P F I R A T) (X : CxOf C I R A T) (same : I → I → Bool)
-    (by_value : (x y : I) → same x y ≡ true → x ≡ y) (old : Cache C I R A T) (before : Evaluation D C V P F I R A T)
+    (by_value : (x y : I) → same x y ≡ true → x ≡ y) (old : Cache C I R T) (before : Evaluation D C V P F I R A T)
     (call : Call I) (outcome : R) (suits : EntriesSuit G.ENABLE_PROVISIONAL_CACHE (G.script old.cx))
     (right : IsRight G X same old.cx old before)
     (not_lone : (s : OpenGoal C F I R A T) (below : List (OpenGoal C F I R A T)) → before.goals ≡ s ∷ below
@@ -92,11 +92,11 @@ module _ {D C V P F I R A T : Type 0} (G : DelegateOf D C V P F I R A T) (X : Cx
     → before.goals ≡ s ∷ below → IsOff (runs_of below) s.0.input)
     (h : HaveOneKind G same old.cx call old.results before.goals before.provisional) where
   -- the goal is run again
-  pub rerun_keeps : (new : Cache C I R A T) (after : Evaluation D C V P F I R A T)
+  pub rerun_keeps : (new : Cache C I R T) (after : Evaluation D C V P F I R A T)
       → RunsAgain G X same outcome old before new after
       → HaveOneKind G same old.cx call new.results after.goals after.provisional
   rerun_keeps new after again =
-      subst (λ (results : Store I (StoredResult C I R A T)).
+      subst (λ (results : Store I (StoredResult I R T)).
       HaveOneKind G same old.cx call results after.goals after.provisional) (sym again.results)
       (record {
         kinds =
@@ -113,7 +113,7 @@ module _ {D C V P F I R A T : Type 0} (G : DelegateOf D C V P F I R A T) (X : Cx
       })
 
   -- whatever the end of its run leads to
-  pub led_keeps : (same_result : R → R → Bool) (next : Next R) (new : Cache C I R A T)
+  pub led_keeps : (same_result : R → R → Bool) (next : Next R) (new : Cache C I R T)
       (after : Evaluation D C V P F I R A T) → RunLeads G X same same_result outcome old before next new after
       → HaveOneKindNext G same old.cx call next new.results after.goals after.provisional
   led_keeps same_result next new after (IsDone entry run reason comes pops unmet) =

@@ -53,7 +53,7 @@ module _ {D C V P F I R A T : Type 0} (G : DelegateOf D C V P F I R A T) (X : Cx
     (enclosed : CallIsEnclosed G X cx call) where
   -- ---- the goal is popped
 
-  module _ (nodes after : List (CacheNode I R)) (results later : Store I (StoredResult C I R A T))
+  module _ (nodes after : List (CacheNode I R)) (results later : Store I (StoredResult I R T))
       (entries more : Lists I (ProvisionalCacheEntry C I R A T)) (token : I → T) (ahead : ℕ) (r : R) (starts : ℕ)
       (met : Bool) (definite : IsDefinite (verdicts X) r) (reason : Option (RebaseReason C I R A T)) where
     -- what is known as the newest goal is popped
@@ -168,7 +168,7 @@ module _ {D C V P F I R A T : Type 0} (G : DelegateOf D C V P F I R A T) (X : Cx
 
   -- ---- the goal is run again
 
-  module _ (nodes after : List (CacheNode I R)) (results : Store I (StoredResult C I R A T))
+  module _ (nodes after : List (CacheNode I R)) (results : Store I (StoredResult I R T))
       (entries more : Lists I (ProvisionalCacheEntry C I R A T)) (r : R) (met : Bool)
       (definite : IsDefinite (verdicts X) r) (goals new : List (OpenGoal C F I R A T))
       (justified : AreJustified (verdicts X) nodes (runs_of goals))
@@ -270,7 +270,7 @@ module _ {D C V P F I R A T : Type 0} (G : DelegateOf D C V P F I R A T) (X : Cx
       → Overlap held failed) (yes_is_proved : KeepsRule X.is_yes (G.script cx) (X.proves cx))
       (no_is_refuted : KeepsRule X.is_no (G.script cx) (X.refutes cx))
       (nodes : List (CacheNode I R)) (are_runs : AreRuns (verdicts X) (G.script cx) nodes)
-      (results : Store I (StoredResult C I R A T)) (entries : Lists I (ProvisionalCacheEntry C I R A T)) (ahead : ℕ)
+      (results : Store I (StoredResult I R T)) (entries : Lists I (ProvisionalCacheEntry C I R A T)) (ahead : ℕ)
       (r : R) (starts : ℕ) (met : Bool) where
     -- the newest goal's run says what the one before it said
     newest_again : (goals : List (OpenGoal C F I R A T))
@@ -315,7 +315,7 @@ module _ {D C V P F I R A T : Type 0} (G : DelegateOf D C V P F I R A T) (X : Cx
 -- ---- whatever the end of the run leads to
 
 module _ {D C V P F I R A T : Type 0} (G : DelegateOf D C V P F I R A T) (X : CxOf C I R A T) (same : I → I → Bool)
-    (by_value : (x y : I) → same x y ≡ true → x ≡ y) (old : Cache C I R A T) (before : Evaluation D C V P F I R A T)
+    (by_value : (x y : I) → same x y ≡ true → x ≡ y) (old : Cache C I R T) (before : Evaluation D C V P F I R A T)
     (starts : ℕ) (call : Call I) (ahead : ℕ) (noop : Bool) (outcome : R)
     (needs : CallNeedsTwoRuns G X old.cx call noop)
     (asked : Requests G X same old.cx (Done outcome) call ahead old before starts)
@@ -351,7 +351,7 @@ module _ {D C V P F I R A T : Type 0} (G : DelegateOf D C V P F I R A T) (X : Cx
       starts before.limits_met before.goals
       asked.asked right.justified right.ready apart h
 
-  next_settles : (reason : Option (RebaseReason C I R A T)) (next : Next R) (new : Cache C I R A T)
+  next_settles : (reason : Option (RebaseReason C I R A T)) (next : Next R) (new : Cache C I R T)
       (after : Evaluation D C V P F I R A T) → after.limits_met ≡ before.limits_met
       → PopSettles G X same by_value old.cx call needs.needs.enclosed old.nodes new.nodes old.results new.results
       before.provisional after.provisional (X.token old.cx) ahead outcome starts before.limits_met result_definite
@@ -377,7 +377,7 @@ module _ {D C V P F I R A T : Type 0} (G : DelegateOf D C V P F I R A T) (X : Cx
   off_at_newest goals settled s below was =
       (subst (AreSettledGoals (verdicts X) same old.nodes old.results before.provisional None) was settled).0.apart
 
-  entries_next : (next : Next R) (new : Cache C I R A T) (after : Evaluation D C V P F I R A T)
+  entries_next : (next : Next R) (new : Cache C I R T) (after : Evaluation D C V P F I R A T)
       → RunLeads G X same same_result outcome old before next new after
       → EntriesSuitNext G same old.cx call next new.results after.goals after.provisional
   entries_next next new after leads =
@@ -385,7 +385,7 @@ module _ {D C V P F I R A T : Type 0} (G : DelegateOf D C V P F I R A T) (X : Cx
       (not_lone_at before.goals h.none_lone) (off_at_newest before.goals h.goals_are)
       same_result next new after leads kept
 
-  pub led_settles : (next : Next R) (new : Cache C I R A T) (after : Evaluation D C V P F I R A T)
+  pub led_settles : (next : Next R) (new : Cache C I R T) (after : Evaluation D C V P F I R A T)
       → RunLeads G X same same_result outcome old before next new after
       → SettlesNext G X same old.cx call next new after
   led_settles next new after (IsDone entry run reason comes pops unmet) =

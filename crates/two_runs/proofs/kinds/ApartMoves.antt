@@ -44,7 +44,7 @@ module _ {X F I R A T : Type 0} (says : Verdicts R) (same : I → I → Bool) (s
 
 -- ---- the newest goal changes
 
-module _ {X F I R A T : Type 0} (same : I → I → Bool) (results : Store I (StoredResult X I R A T))
+module _ {X F I R A T : Type 0} (same : I → I → Bool) (results : Store I (StoredResult I R T))
     (entries : Lists I (ProvisionalCacheEntry X I R A T)) (old new : List (OpenGoal X F I R A T)) where
   newest_apart : (s t : OpenGoal X F I R A T) (below : List (OpenGoal X F I R A T)) → old ≡ s ∷ below → new ≡ t ∷ below
       → s.0.input ≡ t.0.input → StandApart same results old entries → StandApart same results new entries
@@ -68,7 +68,7 @@ module _ {X F I R A T : Type 0} (same : I → I → Bool) (results : Store I (St
     t.run,
   ) t.below t.was t.is refl
 
-module _ {X F I R A T : Type 0} (same : I → I → Bool) (results : Store I (StoredResult X I R A T))
+module _ {X F I R A T : Type 0} (same : I → I → Bool) (results : Store I (StoredResult I R T))
     (entries : Lists I (ProvisionalCacheEntry X I R A T)) where
   pub noted_apart : (request : Request I R) (old new : List (OpenGoal X F I R A T)) → NotesCandidate request old new
       → StandApart same results old entries → StandApart same results new entries
@@ -86,7 +86,7 @@ module _ {X F I R A T : Type 0} (same : I → I → Bool) (results : Store I (St
   ) noted.below noted.was noted.is refl h
 
 module _ {D C V P F I R A T : Type 0} (G : DelegateOf D C V P F I R A T) (X : CxOf C I R A T) (cx : C)
-    (same : I → I → Bool) (results : Store I (StoredResult C I R A T))
+    (same : I → I → Bool) (results : Store I (StoredResult I R T))
     (entries : Lists I (ProvisionalCacheEntry C I R A T)) (old new : List (OpenGoal C F I R A T)) where
   pub stepped_apart : (given : Received R) (request : Request I R) → HasStepped G X cx given request old new
       → StandApart same results old entries → StandApart same results new entries

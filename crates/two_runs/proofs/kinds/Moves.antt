@@ -203,7 +203,7 @@ module _ {X F I R A T : Type 0} (scripts : I → List (Reply R) → Request I R)
 
 -- the answer of a goal that reaches its nested goals was stored, or nothing was
 pub stored_reach_nested : {X I R A T : Type 0} (scripts : I → List (Reply R) → Request I R) (same : I → I → Bool)
-    (by_value : (x y : I) → same x y ≡ true → x ≡ y) (goals : List I) (results later : Store I (StoredResult X I R A T))
+    (by_value : (x y : I) → same x y ≡ true → x ≡ y) (goals : List I) (results later : Store I (StoredResult I R T))
     (goal : I) (answer : EvaluationResult X I R A T)
     → ReachesNested scripts same goal answer.nested_goals → StoresAnswer same results later goal answer
     → StoredReachNested scripts same goals results → StoredReachNested scripts same goals later
@@ -218,7 +218,7 @@ stored_reach_nested {X} {I} {R} {A} {T} scripts same by_value goals results late
           let both : Some (stored_from answer token) ≡ Some s = sym found ∙ at in
           let is : stored_from answer token ≡ s = cc in
           subst (λ g. ReachesNested scripts same g s.nested_goals) w.0
-          (subst (λ (n : StoredResult X I R A T). ReachesNested scripts same goal n.nested_goals) is reached)
+          (subst (λ (n : StoredResult I R T). ReachesNested scripts same goal n.nested_goals) is reached)
       | inr unchanged ↦ h other s among (sym unchanged ∙ at)
     ]
 

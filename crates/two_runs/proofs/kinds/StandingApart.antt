@@ -51,7 +51,7 @@ filtered_shorter p (x ∷ xs) = by (p x) (filtered_shorter p xs)
 
 module _ {X F I R A T : Type 0} (same : I → I → Bool) where
   -- the goals under evaluation are the same, or fewer
-  pub apart_over : (results : Store I (StoredResult X I R A T)) (old new : List (OpenGoal X F I R A T))
+  pub apart_over : (results : Store I (StoredResult I R T)) (old new : List (OpenGoal X F I R A T))
       (entries : Lists I (ProvisionalCacheEntry X I R A T))
       → ((goal : I) → IsOff (runs_of old) goal → IsOff (runs_of new) goal) → StandApart same results old entries
       → StandApart same results new entries
@@ -64,7 +64,7 @@ module _ {X F I R A T : Type 0} (same : I → I → Bool) where
   off_changed s t below is goal off = (λ same_goal. off.0 (same_goal ∙ sym is), off.1)
 
   -- a goal without entries is pushed
-  pub apart_pushed : (results : Store I (StoredResult X I R A T)) (s : OpenGoal X F I R A T)
+  pub apart_pushed : (results : Store I (StoredResult I R T)) (s : OpenGoal X F I R A T)
       (below : List (OpenGoal X F I R A T)) (entries : Lists I (ProvisionalCacheEntry X I R A T))
       → entries_at same entries s.0.input ≡ [] → StandApart same results below entries
       → StandApart same results (s ∷ below) entries
@@ -79,7 +79,7 @@ module _ {X F I R A T : Type 0} (same : I → I → Bool) where
   }
 
   -- entries are cleared
-  pub apart_cleared : (results : Store I (StoredResult X I R A T)) (goals : List (OpenGoal X F I R A T))
+  pub apart_cleared : (results : Store I (StoredResult I R T)) (goals : List (OpenGoal X F I R A T))
       (old new : Lists I (ProvisionalCacheEntry X I R A T)) (stays : ProvisionalCacheEntry X I R A T → Bool)
       → ((goal : I) → entries_at same new goal ≡ filter stays (entries_at same old goal))
       → StandApart same results goals old → StandApart same results goals new
@@ -96,7 +96,7 @@ module _ {X F I R A T : Type 0} (same : I → I → Bool) where
           (subst (λ l. Contains l entry) (cleared goal) there)).0
 
   -- there are none
-  pub apart_none : (results : Store I (StoredResult X I R A T)) (goals : List (OpenGoal X F I R A T))
+  pub apart_none : (results : Store I (StoredResult I R T)) (goals : List (OpenGoal X F I R A T))
       (entries : Lists I (ProvisionalCacheEntry X I R A T))
       → ((goal : I) → entries_at same entries goal ≡ []) → StandApart same results goals entries
   apart_none results goals entries none = record {
@@ -108,7 +108,7 @@ module _ {X F I R A T : Type 0} (same : I → I → Bool) where
 -- ---- the newest goal is popped
 
 module _ {X F I R A T : Type 0} (same : I → I → Bool) (by_value : (x y : I) → same x y ≡ true → x ≡ y)
-    (results later : Store I (StoredResult X I R A T)) (s : OpenGoal X F I R A T) (below : List (OpenGoal X F I R A T))
+    (results later : Store I (StoredResult I R T)) (s : OpenGoal X F I R A T) (below : List (OpenGoal X F I R A T))
     (enabled : Bool) (propagated : I → A → R) (overflow : I → R) (reason : Option (RebaseReason X I R A T)) (r : R)
     (target : Option NodeId) (old new : Lists I (ProvisionalCacheEntry X I R A T))
     (h : StandApart same results (s ∷ below) old)

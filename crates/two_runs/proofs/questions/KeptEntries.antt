@@ -13,7 +13,7 @@ use Rattle.search_rules.specs.Calls.{CallIsEnclosed}
 use Rattle.two_runs.proofs.questions.OneKind.{asked_keeps, began_keeps, noted_keeps, used_without_entries}
 
 module _ {D C V P F I R A T : Type 0} (G : DelegateOf D C V P F I R A T) (X : CxOf C I R A T) (same : I → I → Bool)
-    (by_value : (x y : I) → same x y ≡ true → x ≡ y) (cx : C) (kind : PathKind) (goal : I) (old : Cache C I R A T)
+    (by_value : (x y : I) → same x y ≡ true → x ≡ y) (cx : C) (kind : PathKind) (goal : I) (old : Cache C I R T)
     (e : Evaluation D C V P F I R A T) (starts : _) (call : Call I) (ahead : _) (enclosed : CallIsEnclosed G X cx call)
     (asked : Requests G X same cx (Evaluate kind goal) call ahead old e starts)
     (right : IsRight G X same cx old e) where
@@ -28,7 +28,7 @@ module _ {D C V P F I R A T : Type 0} (G : DelegateOf D C V P F I R A T) (X : Cx
       starts call ahead enclosed asked right kept depth hit found other nested
 
   pub asked_keeps_entries : EntriesSuitCall G same cx call old.results e.goals e.provisional
-      → (noop : Bool) (received : Received R) (new : Cache C I R A T) (after : Evaluation D C V P F I R A T) (later : _)
+      → (noop : Bool) (received : Received R) (new : Cache C I R T) (after : Evaluation D C V P F I R A T) (later : _)
       → AskingLeadsTo G X same cx kind goal noop old e starts received new after later
       → EntriesSuitCall G same cx call new.results after.goals after.provisional
   asked_keeps_entries (OneKind kept) noop received new after later comes = OneKind (asked_keeps G X same by_value cx
@@ -47,7 +47,7 @@ module _ {D C V P F I R A T : Type 0} (G : DelegateOf D C V P F I R A T) (X : Cx
 
 -- a call begins with a goal that is pushed
 pub began_keeps_entries : {D C V P F I R A T : Type 0} (G : DelegateOf D C V P F I R A T) (X : CxOf C I R A T)
-    (same : I → I → Bool) (cx : C) (kind : PathKind) (goal : I) (old : Cache C I R A T)
+    (same : I → I → Bool) (cx : C) (kind : PathKind) (goal : I) (old : Cache C I R T)
     (e : Evaluation D C V P F I R A T) (is_new : IsNew e) (depth : AvailableDepth)
     (goals : List (OpenGoal C F I R A T)) (nodes : List (CacheNode I R))
     → Pushes G X cx goal kind depth old.nodes nodes e.goals goals → (call : Call I)
@@ -62,7 +62,7 @@ began_keeps_entries {C = C} {I = I} {R = R} {A = A} {T = T} G X same cx kind goa
 -- the newest goal takes its step, and notes what it requested of candidates
 pub noted_keeps_entries : {D C V P F I R A T : Type 0} (G : DelegateOf D C V P F I R A T) (X : CxOf C I R A T)
     (same : I → I → Bool) (cx : C) (call : Call I) (given : Received R) (request : Request I R)
-    (results : Store I (StoredResult C I R A T)) (old mid after : List (OpenGoal C F I R A T))
+    (results : Store I (StoredResult I R T)) (old mid after : List (OpenGoal C F I R A T))
     (entries : Lists I (ProvisionalCacheEntry C I R A T))
     → HasStepped G X cx given request old mid → NotesCandidate request mid after
     → EntriesSuitCall G same cx call results old entries → EntriesSuitCall G same cx call results after entries

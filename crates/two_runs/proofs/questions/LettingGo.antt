@@ -7,7 +7,7 @@ use Rattle.search_state.specs.declared.evaluation.Evaluation.{Evaluation}
 use Rattle.two_runs.proofs.settled.Collecting.{answer_stays, settled_stay, settling_stay}
 
 module _ {D C V P F I R A T : Type 0} (G : DelegateOf D C V P F I R A T) (X : CxOf C I R A T) (same : I → I → Bool)
-    (cx : C) (e : Evaluation D C V P F I R A T) (old new : Cache C I R A T) where
+    (cx : C) (e : Evaluation D C V P F I R A T) (old new : Cache C I R T) where
   module _ (received : Received R) (goes : LetsGo same e received.node old new) where
     pub settles_stay : (call : Call I) → Settles G X same cx call received old e
         → Settles G X same cx call received new e

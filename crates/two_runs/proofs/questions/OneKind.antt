@@ -31,7 +31,7 @@ use Rattle.search_rules.proofs.moves.Moves.{enclosed_asks}
 
 module _ {D C V P F I R A T : Type 0} (G : DelegateOf D C V P F I R A T) (X : CxOf C I R A T) (same : I → I → Bool)
     (cx : C) (call : Call I) (kind : PathKind) (goal : I) (depth : AvailableDepth) (nodes later : List (CacheNode I R))
-    (results : Store I (StoredResult C I R A T)) (old new : List (OpenGoal C F I R A T))
+    (results : Store I (StoredResult I R T)) (old new : List (OpenGoal C F I R A T))
     (entries : Lists I (ProvisionalCacheEntry C I R A T)) where
   pushed_keeps : AsksNewest (G.script cx) old kind goal → entries_at same entries goal ≡ []
       → Pushes G X cx goal kind depth nodes later old new → HaveOneKind G same cx call results old entries
@@ -53,7 +53,7 @@ module _ {D C V P F I R A T : Type 0} (G : DelegateOf D C V P F I R A T) (X : Cx
 -- ---- a question
 
 module _ {D C V P F I R A T : Type 0} (G : DelegateOf D C V P F I R A T) (X : CxOf C I R A T) (same : I → I → Bool)
-    (by_value : (x y : I) → same x y ≡ true → x ≡ y) (cx : C) (kind : PathKind) (goal : I) (old : Cache C I R A T)
+    (by_value : (x y : I) → same x y ≡ true → x ≡ y) (cx : C) (kind : PathKind) (goal : I) (old : Cache C I R T)
     (e : Evaluation D C V P F I R A T) (starts : ℕ) (call : Call I) (ahead : ℕ) (enclosed : CallIsEnclosed G X cx call)
     (asked : Requests G X same cx (Evaluate kind goal) call ahead old e starts) (right : IsRight G X same cx old e)
     (h : HaveOneKind G same cx call old.results e.goals e.provisional) where
@@ -77,7 +77,7 @@ module _ {D C V P F I R A T : Type 0} (G : DelegateOf D C V P F I R A T) (X : Cx
   module _ (depth : AvailableDepth) (hit : Hit I R T)
       (found : first_accepted (is_applicable same (asking G X same cx kind goal e))
       (usable same old.results goal depth.0) ≡ Some hit) where
-    success : (s : StoredResult C I R A T) × (stored_at same old.results goal Success ≡ Some s)
+    success : (s : StoredResult I R T) × (stored_at same old.results goal Success ≡ Some s)
         × ((hit_at s.required_depth false s ≡ hit)
         × (is_applicable same (asking G X same cx kind goal e) hit.nested_goals ≡ true))
     success =
@@ -96,7 +96,7 @@ module _ {D C V P F I R A T : Type 0} (G : DelegateOf D C V P F I R A T) (X : Cx
         G.ENABLE_PROVISIONAL_CACHE e.provisional h.kinds have calm hit.nested_goals hit_reached by_value success.2.1
 
   -- whatever it comes to
-  pub asked_keeps : (noop : Bool) (received : Received R) (new : Cache C I R A T) (after : Evaluation D C V P F I R A T)
+  pub asked_keeps : (noop : Bool) (received : Received R) (new : Cache C I R T) (after : Evaluation D C V P F I R A T)
       (later : ℕ) → AskingLeadsTo G X same cx kind goal noop old e starts received new after later
       → HaveOneKind G same cx call new.results after.goals after.provisional
   asked_keeps noop received new after later (Refused goals none noted) =
@@ -128,7 +128,7 @@ module _ {D C V P F I R A T : Type 0} (G : DelegateOf D C V P F I R A T) (X : Cx
 
 -- a call begins with a goal that is pushed
 pub began_keeps : {D C V P F I R A T : Type 0} (G : DelegateOf D C V P F I R A T) (X : CxOf C I R A T)
-    (same : I → I → Bool) (cx : C) (kind : PathKind) (goal : I) (old : Cache C I R A T)
+    (same : I → I → Bool) (cx : C) (kind : PathKind) (goal : I) (old : Cache C I R T)
     (e : Evaluation D C V P F I R A T) (is_new : IsNew e) (depth : AvailableDepth)
     (goals : List (OpenGoal C F I R A T)) (nodes : List (CacheNode I R))
     → Pushes G X cx goal kind depth old.nodes nodes e.goals goals → (call : Call I)
@@ -150,7 +150,7 @@ began_keeps {C = C} {I = I} {R = R} {A = A} {T = T} G X same cx kind goal old e 
 -- the newest goal takes its step, and notes what it requested of candidates
 pub noted_keeps : {D C V P F I R A T : Type 0} (G : DelegateOf D C V P F I R A T) (X : CxOf C I R A T)
     (same : I → I → Bool) (cx : C) (call : Call I) (given : Received R) (request : Request I R)
-    (results : Store I (StoredResult C I R A T)) (old mid after : List (OpenGoal C F I R A T))
+    (results : Store I (StoredResult I R T)) (old mid after : List (OpenGoal C F I R A T))
     (entries : Lists I (ProvisionalCacheEntry C I R A T))
     → HasStepped G X cx given request old mid → NotesCandidate request mid after
     → HaveOneKind G same cx call results old entries → HaveOneKind G same cx call results after entries

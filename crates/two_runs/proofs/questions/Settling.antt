@@ -56,7 +56,7 @@ to_store noop in_scope found unrecorded unscoped = ap₂ (λ noop scoped. fate_f
 
 module _ {D C V P F I R A T : Type 0} (G : DelegateOf D C V P F I R A T) (X : CxOf C I R A T) (same : I → I → Bool)
     (by_value : (x y : I) → same x y ≡ true → x ≡ y) (own : (x : I) → same x x ≡ true) (cx : C) (kind : PathKind)
-    (goal : I) (old : Cache C I R A T) (e : Evaluation D C V P F I R A T) (starts : ℕ)
+    (goal : I) (old : Cache C I R T) (e : Evaluation D C V P F I R A T) (starts : ℕ)
     (call : Call I) (right : IsRight G X same cx old e)
     (h : IsSettling (verdicts X) same old.nodes old.results e.provisional call e.goals e.limits_met) where
   -- the goal is pushed
@@ -106,7 +106,7 @@ module _ {D C V P F I R A T : Type 0} (G : DelegateOf D C V P F I R A T) (X : Cx
 
 module _ {D C V P F I R A T : Type 0} (G : DelegateOf D C V P F I R A T) (X : CxOf C I R A T) (same : I → I → Bool)
     (by_value : (x y : I) → same x y ≡ true → x ≡ y) (own : (x : I) → same x x ≡ true)
-    (more : 2 ≤ G.DIVIDE_AVAILABLE_DEPTH_ON_OVERFLOW) (cx : C) (kind : PathKind) (goal : I) (old : Cache C I R A T)
+    (more : 2 ≤ G.DIVIDE_AVAILABLE_DEPTH_ON_OVERFLOW) (cx : C) (kind : PathKind) (goal : I) (old : Cache C I R T)
     (e : Evaluation D C V P F I R A T) (starts : ℕ)
     (call : Call I) (ahead : ℕ) (noop : Bool) (needs : CallNeedsTwoRuns G X cx call noop)
     (asked : Requests G X same cx (Evaluate kind goal) call ahead old e starts) (right : IsRight G X same cx old e)
@@ -123,7 +123,7 @@ module _ {D C V P F I R A T : Type 0} (G : DelegateOf D C V P F I R A T) (X : Cx
   module _ (depth : AvailableDepth) (hit : Hit I R T)
       (found : first_accepted (is_applicable same (asking G X same cx kind goal e))
       (usable same old.results goal depth.0) ≡ Some hit) where
-    success : (s : StoredResult C I R A T) × (stored_at same old.results goal Success ≡ Some s)
+    success : (s : StoredResult I R T) × (stored_at same old.results goal Success ≡ Some s)
         × ((hit_at s.required_depth false s ≡ hit)
         × (is_applicable same (asking G X same cx kind goal e) hit.nested_goals ≡ true))
     success =
@@ -171,14 +171,14 @@ module _ {D C V P F I R A T : Type 0} (G : DelegateOf D C V P F I R A T) (X : Cx
   nested_none =
       used_have_none G X same by_value cx kind goal old e starts call ahead needs.needs.enclosed asked right kept
 
-  kept_then : (received : Received R) (new : Cache C I R A T) (after : Evaluation D C V P F I R A T) (later : ℕ)
+  kept_then : (received : Received R) (new : Cache C I R T) (after : Evaluation D C V P F I R A T) (later : ℕ)
       → AskingLeadsTo G X same cx kind goal noop old e starts received new after later
       → EntriesSuitCall G same cx call new.results after.goals after.provisional
   kept_then = asked_keeps_entries G X same by_value cx kind goal old e starts call ahead
       needs.needs.enclosed asked right kept noop
 
   -- whatever the question comes to
-  pub asked_settles : (received : Received R) (new : Cache C I R A T) (after : Evaluation D C V P F I R A T) (later : ℕ)
+  pub asked_settles : (received : Received R) (new : Cache C I R T) (after : Evaluation D C V P F I R A T) (later : ℕ)
       → AskingLeadsTo G X same cx kind goal noop old e starts received new after later
       → Settles G X same cx call received new after
   asked_settles received new after later (Refused goals none noted) = absurd (enclosed_refuses_none G X cx call ahead

@@ -79,7 +79,7 @@ module _ {I R : Type 0} (says : Verdicts R) (live : ℕ → Bool) (old new : Lis
   if_some_stays P Q gives None is h = h
   if_some_stays P Q gives (Some n) is h = gives n is h
 
-  module _ {X A T : Type 0} (same : I → I → Bool) (results : Store I (StoredResult X I R A T)) where
+  module _ {T : Type 0} (same : I → I → Bool) (results : Store I (StoredResult I R T)) where
     pub settled_stay : (goals : List I) → AreLiveResults live same results → AreSettled says same old results goals
         → AreSettled says same new results goals
     settled_stay goals are h = record {
@@ -88,7 +88,7 @@ module _ {I R : Type 0} (says : Verdicts R) (live : ℕ → Bool) (old new : Lis
       require = h.require;
     }
 
-    module _ (entries : Lists I (ProvisionalCacheEntry X I R A T))
+    module _ {X A : Type 0} (entries : Lists I (ProvisionalCacheEntry X I R A T))
         (entries_are : AreLiveEntries live same entries) where
       -- the node of a goal's entry is live
       entry_is_live : (goal : I) (entry : ProvisionalCacheEntry X I R A T) (node : ℕ)

@@ -48,7 +48,7 @@ sorted false false one =
     record { verdict = Neither; yes = (λ is. absurd cc, λ is. absurd cc); no = (λ is. absurd cc, λ is. absurd cc) }
 
 module _ {X F I R A T : Type 0} (says : Verdicts R) (same : I → I → Bool) (nodes : List (CacheNode I R))
-    (results : Store I (StoredResult X I R A T)) (entries : Lists I (ProvisionalCacheEntry X I R A T)) where
+    (results : Store I (StoredResult I R T)) (entries : Lists I (ProvisionalCacheEntry X I R A T)) where
   -- no two of the goals are the same
   distinct_goals : (above : Option ℕ) (goals : List (OpenGoal X F I R A T))
       → AreSettledGoals says same nodes results entries above goals → HaveDistinctGoals (runs_of goals)
@@ -67,7 +67,7 @@ module _ {X F I R A T : Type 0} (says : Verdicts R) (one_sort : (r : R) → says
     (clash : (goal : I) (held failed : List (Question I)) → proves goal held
     → refutes goal failed → Overlap held failed)
     (yes_is_proved : KeepsRule says.is_yes scripts proves) (no_is_refuted : KeepsRule says.is_no scripts refutes)
-    (same : I → I → Bool) (results : Store I (StoredResult X I R A T)) (s : OpenGoal X F I R A T)
+    (same : I → I → Bool) (results : Store I (StoredResult I R T)) (s : OpenGoal X F I R A T)
     (below : List (OpenGoal X F I R A T))
     (entries : Lists I (ProvisionalCacheEntry X I R A T)) (h : AreJustified says nodes (runs_of (s ∷ below)))
     (ready : AreReady says same scripts nodes (runs_of (s ∷ below)) entries)

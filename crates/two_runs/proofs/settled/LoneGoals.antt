@@ -56,8 +56,8 @@ no_heads_if (head ∷ heads) none = absurd (none (λ is. cc))
 -- ---- what is stored
 
 -- a success that requires no more than the depth is used, if its nested goals are accepted
-module _ {X I R A T : Type 0} (accepts : NestedPaths I → Bool) (depth : ℕ) where
-  success_found : (s : StoredResult X I R A T) (more : List (Hit I R T))
+module _ {I R T : Type 0} (accepts : NestedPaths I → Bool) (depth : ℕ) where
+  success_found : (s : StoredResult I R T) (more : List (Hit I R T))
       → accepts s.nested_goals ≡ true → s.required_depth ≤ depth
       → first_accepted accepts (successes depth (Some s) ++ more) ≡ Some (hit_at s.required_depth false s)
   success_found s more accepted within =
@@ -65,7 +65,7 @@ module _ {X I R A T : Type 0} (accepts : NestedPaths I → Bool) (depth : ℕ) w
       rw fits (rw accepted refl)
 
   pub lone_found :
-      (same : I → I → Bool) (results : Store I (StoredResult X I R A T)) (goal : I) (s : StoredResult X I R A T)
+      (same : I → I → Bool) (results : Store I (StoredResult I R T)) (goal : I) (s : StoredResult I R T)
       → stored_at same results goal Success ≡ Some s → accepts s.nested_goals ≡ true → s.required_depth ≤ depth
       → first_accepted accepts (usable same results goal depth) ≡ Some (hit_at s.required_depth false s)
   lone_found same results goal s at accepted within =
@@ -76,7 +76,7 @@ module _ {X I R A T : Type 0} (accepts : NestedPaths I → Bool) (depth : ℕ) w
 -- ---- lone goals, from one store to another
 
 -- goals that were lone are lone still
-module _ {X I R A T : Type 0} (same : I → I → Bool) (old new : Store I (StoredResult X I R A T))
+module _ {I R T : Type 0} (same : I → I → Bool) (old new : Store I (StoredResult I R T))
     (stay : (goal : I) → IsLone same old goal → IsLone same new goal) (goals : List I) where
   are_lone_kept : (lone : List I) → AreLone same old goals lone → AreLone same new goals lone
   are_lone_kept [] h = tt
@@ -102,7 +102,7 @@ module _ {X I R A T : Type 0} (same : I → I → Bool) (old new : Store I (Stor
           are_lone = (within, lone, others_differ h.lone h.are_lone, are_lone_kept h.lone h.are_lone);
         }
 
-module _ {X I R A T : Type 0} (same : I → I → Bool) (results : Store I (StoredResult X I R A T)) (goals : List I) where
+module _ {I R T : Type 0} (same : I → I → Bool) (results : Store I (StoredResult I R T)) (goals : List I) where
   none_needed : HasLone same results goals 0
   none_needed = record { lone = []; long = refl; are_lone = tt }
 
@@ -116,7 +116,7 @@ module _ {X I R A T : Type 0} (same : I → I → Bool) (results : Store I (Stor
 -- ---- an answer is stored
 
 module _ {X I R A T : Type 0} (same : I → I → Bool) (by_value : (x y : I) → same x y ≡ true → x ≡ y)
-    (old new : Store I (StoredResult X I R A T)) (goal : I) (answer : EvaluationResult X I R A T) where
+    (old new : Store I (StoredResult I R T)) (goal : I) (answer : EvaluationResult X I R A T) where
   -- no goal but this one is lone that was not
   lone_before : StoresAnswer same old new goal answer → (other : I) → IsLone same new other
       → (goal ≡ other) ⊎ IsLone same old other
@@ -154,10 +154,10 @@ module _ {X I R A T : Type 0} (same : I → I → Bool) (by_value : (x y : I) �
                     let found : Some (stored_from answer token) ≡ Some s = sym here ∙ at in
                     let is : stored_from answer token ≡ s = cc in
                     let lone : IsLone same new other =
-                    subst (λ o. IsSomeAnd o (λ (t : StoredResult X I R A T). t.nested_goals ≡ [])) (sym at) empty in
+                    subst (λ o. IsSomeAnd o (λ (t : StoredResult I R T). t.nested_goals ≡ [])) (sym at) empty in
                     let nothing : answer.nested_goals ≡ [] =
-                    ap (λ (t : StoredResult X I R A T). t.nested_goals) is ∙ empty in
-                    subst (λ (t : StoredResult X I R A T). HasLone same new goals (t.required_depth + 1)) is
+                    ap (λ (t : StoredResult I R T). t.nested_goals) is ∙ empty in
+                    subst (λ (t : StoredResult I R T). HasLone same new goals (t.required_depth + 1)) is
                     (one_more same old new (lone_after stores) goals goal not_yet answer.required_depth within
                     (subst (IsLone same new) (sym w.0) lone) (requires nothing))
                 | inr unchanged ↦ has_lone_kept same old new (lone_after stores) goals (s.required_depth + 1)
@@ -179,10 +179,10 @@ module _ {X I R A T : Type 0} (same : I → I → Bool) (by_value : (x y : I) �
 
 -- ---- the newest goal changes
 
-module _ {X I R A T : Type 0} (same : I → I → Bool) (results : Store I (StoredResult X I R A T)) (goals : List I) where
+module _ {I R T : Type 0} (same : I → I → Bool) (results : Store I (StoredResult I R T)) (goals : List I) where
   -- another newest goal of the same input, which may be in more need of lone goals
-  newest_kept : {F : Type 0} (s t : OpenGoal X F I R A T) (below : List (OpenGoal X F I R A T)) → t.0.input ≡ s.0.input
-      → ((s.0.state.nested_goals ≡ [] → HasLone same results goals s.0.state.required_depth)
+  newest_kept : {F X A : Type 0} (s t : OpenGoal X F I R A T) (below : List (OpenGoal X F I R A T))
+      → t.0.input ≡ s.0.input → ((s.0.state.nested_goals ≡ [] → HasLone same results goals s.0.state.required_depth)
       → t.0.state.nested_goals ≡ [] → HasLone same results goals t.0.state.required_depth)
       → NoneIsLone same results goals (s ∷ below) → NoneIsLone same results goals (t ∷ below)
   newest_kept s t below is requires h = (λ lone. h.0 (subst (IsLone same results) is lone), requires h.1, h.2)
@@ -196,7 +196,7 @@ module _ {X I R A T : Type 0} (same : I → I → Bool) (results : Store I (Stor
   taken_needs own step answer was after a b (Joined between some joined itself) needs before empty =
       absurd (joined_are_some same between after own _ itself empty)
 
-  module _ {F : Type 0} (old new : List (OpenGoal X F I R A T)) where
+  module _ {F X A : Type 0} (old new : List (OpenGoal X F I R A T)) where
     -- it takes over an answer that has its own nested goals, and the depth that it required
     pub answered_none_lone : (step : PathKind) (required : ℕ) (overflow : Bool) (heads : Heads) (nested : NestedPaths I)
         → (nested ≡ [] → HasLone same results goals (required + 1)) → AnswersNewest step required overflow heads old new
@@ -257,7 +257,7 @@ module _ {X I R A T : Type 0} (same : I → I → Bool) (results : Store I (Stor
 
   -- a stored result is used that met no overflow; if it has no nested goals, its goal is lone
   used_needs : (accepts : NestedPaths I → Bool) (depth : ℕ)
-      (success overflow : Option (StoredResult X I R A T)) (hit : Hit I R T)
+      (success overflow : Option (StoredResult I R T)) (hit : Hit I R T)
       → overflow ≡ None → first_accepted accepts (successes depth success ++ overflows depth overflow) ≡ Some hit
       → IsSomeAnd success (λ s. (s.nested_goals ≡ hit.nested_goals) × (s.required_depth ≡ hit.required_depth))
   used_needs accepts depth None None hit none found = absurd cc
@@ -292,7 +292,7 @@ module _ {X I R A T : Type 0} (same : I → I → Bool) (results : Store I (Stor
 -- ---- requests, and the moves that push a goal, run it again and pop it
 
 module _ {D C V P F I R A T : Type 0} (G : DelegateOf D C V P F I R A T) (X : CxOf C I R A T) (cx : C)
-    (same : I → I → Bool) (results : Store I (StoredResult C I R A T)) (goals : List I) where
+    (same : I → I → Bool) (results : Store I (StoredResult I R T)) (goals : List I) where
   -- the newest goal takes a step,
   pub stepped_none_lone : (given : Received R) (request : Request I R) (old new : List (OpenGoal C F I R A T))
       → HasStepped G X cx given request old new → NoneIsLone same results goals old → NoneIsLone same results goals new
@@ -321,7 +321,7 @@ module _ {D C V P F I R A T : Type 0} (G : DelegateOf D C V P F I R A T) (X : Cx
       (subst (NoneIsLone same results goals) a.was h))
 
 module _ {X F I R A T : Type 0} (same : I → I → Bool)
-    (results : Store I (StoredResult X I R A T)) (goals : List I) where
+    (results : Store I (StoredResult I R T)) (goals : List I) where
   -- what it notes of candidates changes neither its nested goals nor the depth that it requires
   pub noted_none_lone : (request : Request I R) (old new : List (OpenGoal X F I R A T)) → NotesCandidate request old new
       → NoneIsLone same results goals old → NoneIsLone same results goals new
@@ -369,7 +369,7 @@ module _ {X F I R A T : Type 0} (same : I → I → Bool)
 -- ---- where a lone goal is asked
 
 module _ {D C V P F I R A T : Type 0} (G : DelegateOf D C V P F I R A T) (X : CxOf C I R A T) (cx : C)
-    (same : I → I → Bool) (results : Store I (StoredResult C I R A T)) (goals : List I) where
+    (same : I → I → Bool) (results : Store I (StoredResult I R T)) (goals : List I) where
   -- a lone goal is not under evaluation
   lone_not_on_stack : (items : List (OpenGoal C F I R A T)) (frames : List (Frame I R))
       → AreSeen (seen G X cx) (Stood G X cx) items frames → NoneIsLone same results goals items → (goal : I)
@@ -441,7 +441,7 @@ items_differ G X cx goal (s ∷ below) (f ∷ fs) m absent =
     (items_differ G X cx goal below fs m.1 (λ on. absent (inr on)))
 
 module _ {D C V P F I R A T : Type 0} (G : DelegateOf D C V P F I R A T) (X : CxOf C I R A T) (cx : C) (call : Call I)
-    (same : I → I → Bool) (results : Store I (StoredResult C I R A T)) (enclosed : CallIsEnclosed G X cx call)
+    (same : I → I → Bool) (results : Store I (StoredResult I R T)) (enclosed : CallIsEnclosed G X cx call)
     (require : LoneRequire same results call.goals) where
   -- a lone goal that the newest goal asks is answered by what is stored of it
   pub lone_is_answered : (ahead : ℕ) (kind : PathKind) (goal : I) (items : List (OpenGoal C F I R A T)) (starts : ℕ)
@@ -522,7 +522,7 @@ module _ {D C V P F I R A T : Type 0} (G : DelegateOf D C V P F I R A T) (X : Cx
   -- the newest goal's answer was stored, and the goal popped
   pub popped_lone : (by_value : (x y : I) → same x y ≡ true → x ≡ y) (token : I → T) (ahead : ℕ) (request : Request I R)
       (s : OpenGoal C F I R A T) (below after : List (OpenGoal C F I R A T)) (starts : ℕ) (met : Bool) (r : R)
-      (target : Option NodeId) (next : Next R) (later : Store I (StoredResult C I R A T))
+      (target : Option NodeId) (next : Next R) (later : Store I (StoredResult I R T))
       → HasAsked G X cx call ahead request (s ∷ below) starts met → s.1.fate ≡ becomes.Stored
       → (s.0.state.heads ≢ [] → s.0.state.nested_goals ≢ [])
       → StoresAnswer same results later s.0.input (final_answer s r target)

@@ -25,7 +25,7 @@ use Rattle.search_rules.proofs.justified.Justified.{EndsWithNode, goal_of_open, 
 use Rattle.search_rules.proofs.justified.Justified.{no_answers, no_leaf_after}
 
 -- what is known stays known where more goals are nested
-pub known_more : {X I R A T : Type 0} (same : I → I → Bool) (results later : Store I (StoredResult X I R A T))
+pub known_more : {I R T : Type 0} (same : I → I → Bool) (results later : Store I (StoredResult I R T))
     → ((goal : I) → IsLone same results goal → IsLone same later goal) → (nested more : NestedPaths I)
     → ((goal : I) → IsSome (paths_at same nested goal) → IsSome (paths_at same more goal)) → (goal : I)
     → IsKnown same results nested goal → IsKnown same later more goal
@@ -57,7 +57,7 @@ AreBefore limit (s ∷ below) = cycles_node (run_of s) < limit
 
 module _ {X I R A T : Type 0} (says : Verdicts R) (same : I → I → Bool) (nodes after : List (CacheNode I R))
     (kept : KeepsGoals nodes after) (grown : theory.Grown (shapes_of says nodes) (shapes_of says after))
-    (results later : Store I (StoredResult X I R A T))
+    (results later : Store I (StoredResult I R T))
     (lone_stay : (goal : I) → IsLone same results goal → IsLone same later goal)
     (Within : ℕ → Type 0) (entries more : Lists I (ProvisionalCacheEntry X I R A T))
     (stay : StaySame same Within entries more) where
@@ -180,7 +180,7 @@ module _ {X I R A T : Type 0} (says : Verdicts R) (same : I → I → Bool) (nod
 -- ---- the goal itself
 
 module _ {X I R A T : Type 0} (says : Verdicts R) (same : I → I → Bool) (nodes : List (CacheNode I R))
-    (results : Store I (StoredResult X I R A T)) (entries : Lists I (ProvisionalCacheEntry X I R A T)) where
+    (results : Store I (StoredResult I R T)) (entries : Lists I (ProvisionalCacheEntry X I R A T)) where
   -- it gets one more answer
   module _ (a : DefiniteAnswer I) (o : OpenRun I R) (nested : NestedPaths I) (below : List (OpenRun I R)) where
     abbrev answered : OpenRun I R
@@ -238,7 +238,7 @@ walks_beyond : (nodes : List theory.Node) (verdict : theory.Verdict) (stack : Li
 walks_beyond nodes verdict stack Stops Inner a k b step walks c q w = walks c (max k q) (theory.go step w)
 
 -- a goal under evaluation has no entry
-pub own_no_older : {X F I R A T : Type 0} (same : I → I → Bool) (results : Store I (StoredResult X I R A T))
+pub own_no_older : {X F I R A T : Type 0} (same : I → I → Bool) (results : Store I (StoredResult I R T))
     (entries : Lists I (ProvisionalCacheEntry X I R A T)) (s : OpenGoal X F I R A T)
     (below : List (OpenGoal X F I R A T))
     → StandApart same results (s ∷ below) entries → HasNoOlder same entries (run_of s) s.0.input
@@ -247,7 +247,7 @@ own_no_older same results entries s below apart entry node has = absurd ((apart.
 -- ---- the goal's run has ended
 
 module _ {X I R A T : Type 0} (says : Verdicts R) (same : I → I → Bool) (nodes after : List (CacheNode I R))
-    (results : Store I (StoredResult X I R A T)) (entries : Lists I (ProvisionalCacheEntry X I R A T)) (o : OpenRun I R)
+    (results : Store I (StoredResult I R T)) (entries : Lists I (ProvisionalCacheEntry X I R A T)) (o : OpenRun I R)
     (below : List (OpenRun I R)) (h : AreJustified says nodes (o ∷ below)) (r : R) (target : Option NodeId)
     (s : EndsWithNode says nodes after o below r target) (nested : NestedPaths I)
     (off : StaysOff says same nodes results entries o nested below) (apart : IsOff below o.goal)

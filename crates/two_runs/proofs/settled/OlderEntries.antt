@@ -155,7 +155,7 @@ HasNone same entries goal =
 
 -- goals that began before a node did so, whatever the head is
 pub began_before : {X F I R A T : Type 0} (says : Verdicts R) (same : I → I → Bool) (nodes : List (CacheNode I R))
-    (results : Store I (StoredResult X I R A T)) (entries : Lists I (ProvisionalCacheEntry X I R A T)) (limit : ℕ)
+    (results : Store I (StoredResult I R T)) (entries : Lists I (ProvisionalCacheEntry X I R A T)) (limit : ℕ)
     (goals : List (OpenGoal X F I R A T)) → AreSettledGoals says same nodes results entries (Some limit) goals
     → (node : ℕ) → limit ≤ node → (head : StackDepth) → BeganBefore (map cycles_node (runs_of goals)) head node
 began_before says same nodes results entries limit [] h node within head = tt

@@ -44,8 +44,8 @@ use Rattle.search_rules.proofs.justified.Justified.{no_tally}
 
 -- ---- a stored result that is used
 
-module _ {X I R A T : Type 0} (accepts : NestedPaths I → Bool) (depth : ℕ) where
-  used_is : (success overflow : Option (StoredResult X I R A T)) (hit : Hit I R T) → overflow ≡ None
+module _ {I R T : Type 0} (accepts : NestedPaths I → Bool) (depth : ℕ) where
+  used_is : (success overflow : Option (StoredResult I R T)) (hit : Hit I R T) → overflow ≡ None
       → first_accepted accepts (successes depth success ++ overflows depth overflow) ≡ Some hit
       → IsSomeAnd success (λ s. (hit_at s.required_depth false s ≡ hit) × (accepts hit.nested_goals ≡ true))
   used_is None None hit none found = absurd cc
@@ -68,7 +68,7 @@ module _ {X I R A T : Type 0} (accepts : NestedPaths I → Bool) (depth : ℕ) w
           absurd cc
 
   -- where no overflow result is stored of a goal, the success is, and its nested goals are accepted
-  pub used_success : (same : I → I → Bool) (results : Store I (StoredResult X I R A T)) (goal : I) (hit : Hit I R T)
+  pub used_success : (same : I → I → Bool) (results : Store I (StoredResult I R T)) (goal : I) (hit : Hit I R T)
       → stored_at same results goal (WithOverflow depth) ≡ None
       → first_accepted accepts (usable same results goal depth) ≡ Some hit
       → IsSomeAnd (stored_at same results goal Success)
@@ -100,7 +100,7 @@ module _ {X F I R A T : Type 0} where
       (λ is. false≢true (sym parts.0 ∙ (ap (same goal) (sym is) ∙ own goal)), off_absent same own goal below parts.1)
 
   -- no lone goal is
-  pub off_lone : (same : I → I → Bool) (results : Store I (StoredResult X I R A T)) (goals : List I)
+  pub off_lone : (same : I → I → Bool) (results : Store I (StoredResult I R T)) (goals : List I)
       (items : List (OpenGoal X F I R A T))
       → NoneIsLone same results goals items → (goal : I) → IsLone same results goal → IsOff (runs_of items) goal
   off_lone same results goals [] none goal lone = tt
@@ -132,7 +132,7 @@ module _ {X F I R A T : Type 0} where
 
 module _ {X F I R A T : Type 0} (says : Verdicts R) (same : I → I → Bool)
     (by_value : (x y : I) → same x y ≡ true → x ≡ y) (nodes : List (CacheNode I R))
-    (results : Store I (StoredResult X I R A T)) (entries : Lists I (ProvisionalCacheEntry X I R A T)) where
+    (results : Store I (StoredResult I R T)) (entries : Lists I (ProvisionalCacheEntry X I R A T)) where
   -- what it counts, and what is nested in it
   module _ (entry : StackEntry X I R A T) (run : Run X F I R A T) (state : EntryState X I R A T) (tally : Tally)
       (below : List (OpenGoal X F I R A T))

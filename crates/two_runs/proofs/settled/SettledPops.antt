@@ -40,7 +40,7 @@ use Rattle.search_rules.proofs.justified.Justified.{below_is_justified, popped, 
 
 module _ {X F I R A T : Type 0} (says : Verdicts R) (same : I → I → Bool)
     (by_value : (x y : I) → same x y ≡ true → x ≡ y) (scripts : I → List (Reply R) → Request I R)
-    (nodes after : List (CacheNode I R)) (results later : Store I (StoredResult X I R A T))
+    (nodes after : List (CacheNode I R)) (results later : Store I (StoredResult I R T))
     (stay : (goal : I) → IsLone same results goal → IsLone same later goal)
     (entries more : Lists I (ProvisionalCacheEntry X I R A T))
     (s : OpenGoal X F I R A T) (below : List (OpenGoal X F I R A T)) (h : AreJustified says nodes (runs_of (s ∷ below)))

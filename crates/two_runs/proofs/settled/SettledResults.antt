@@ -17,9 +17,9 @@ use Rattle.search_rules.specs.Results.{NotStored, Put, StoresAnswer}
 use Rattle.two_runs.proofs.settled.Leading.{free_graph, leads_finished, leads_grown}
 use Rattle.two_runs.proofs.settled.OffStack.{known_more}
 
-module _ {X I R A T : Type 0} (says : Verdicts R) (same : I → I → Bool) (nodes after : List (CacheNode I R))
+module _ {I R T : Type 0} (says : Verdicts R) (same : I → I → Bool) (nodes after : List (CacheNode I R))
     (kept : KeepsGoals nodes after) (grown : theory.Grown (shapes_of says nodes) (shapes_of says after))
-    (runs : List (OpenRun I R)) (results later : Store I (StoredResult X I R A T))
+    (runs : List (OpenRun I R)) (results later : Store I (StoredResult I R T))
     (stay : (goal : I) → IsLone same results goal → IsLone same later goal)
     (free : AreFree says same nodes runs results) (goals : List I)
     (settled : AreSettled says same nodes results goals) where
@@ -38,7 +38,7 @@ module _ {X I R A T : Type 0} (says : Verdicts R) (same : I → I → Bool) (nod
   ]
 
   -- a result that was stored before
-  leads_before : (goal : I) (s : StoredResult X I R A T) → Contains goals goal
+  leads_before : (goal : I) (s : StoredResult I R T) → Contains goals goal
       → stored_at same results goal Success ≡ Some s → IfSome s.node
       (λ n. LeadsOnly says after (IsKnown same later s.nested_goals) (verdict_of says s.result.result) [] n.0)
   leads_before goal s within at =
@@ -47,7 +47,7 @@ module _ {X I R A T : Type 0} (says : Verdicts R) (same : I → I → Bool) (nod
       (free goal Success s at) (settled.leads goal s within at)
 
   -- an answer is stored
-  pub settled_stored :
+  pub settled_stored : {X A : Type 0} →
       ((x y : I) → same x y ≡ true → x ≡ y) → (input : I) (answer : EvaluationResult X I R A T)
       → StoresAnswer same results later input answer
       → (answer.heads ≡ [] → IfSome answer.node
@@ -67,7 +67,7 @@ module _ {X I R A T : Type 0} (says : Verdicts R) (same : I → I → Bool) (nod
               ap₂ (stored_at same later) (sym w.0) (sym w.1) ∙ puts.here in
               let found : Some (stored_from answer token) ≡ Some s = sym here ∙ at in
               let one : stored_from answer token ≡ s = cc in
-              subst (λ (x : StoredResult X I R A T). IfSome x.node
+              subst (λ (x : StoredResult I R T). IfSome x.node
               (λ n. LeadsOnly says after (IsKnown same later x.nested_goals) (verdict_of says x.result.result) [] n.0))
               one (leads none)
           | inr unchanged ↦ leads_before goal s within (sym unchanged ∙ at)
@@ -76,9 +76,9 @@ module _ {X I R A T : Type 0} (says : Verdicts R) (same : I → I → Bool) (nod
   }
 
 -- nodes are added or finished
-pub settled_grown : {X I R A T : Type 0} (says : Verdicts R) (same : I → I → Bool) (nodes after : List (CacheNode I R))
+pub settled_grown : {I R T : Type 0} (says : Verdicts R) (same : I → I → Bool) (nodes after : List (CacheNode I R))
     → KeepsGoals nodes after → theory.Grown (shapes_of says nodes) (shapes_of says after)
-    → (runs : List (OpenRun I R)) (results : Store I (StoredResult X I R A T)) → AreFree says same nodes runs results
+    → (runs : List (OpenRun I R)) (results : Store I (StoredResult I R T)) → AreFree says same nodes runs results
     → (goals : List I) → AreSettled says same nodes results goals → AreSettled says same after results goals
 settled_grown says same nodes after kept grown runs results free goals settled = record {
   leads = leads_before says same nodes after kept grown runs results results (λ goal lone. lone) free goals settled;
@@ -86,11 +86,11 @@ settled_grown says same nodes after kept grown runs results free goals settled =
 }
 
 -- what is finished stays, as after a move that failed
-pub settled_finished : {X I R A T : Type 0} (says : Verdicts R) (same : I → I → Bool)
+pub settled_finished : {I R T : Type 0} (says : Verdicts R) (same : I → I → Bool)
     (nodes after : List (CacheNode I R)) → KeepsFinished nodes after
-    → (runs : List (OpenRun I R)) (results : Store I (StoredResult X I R A T)) → AreFree says same nodes runs results
+    → (runs : List (OpenRun I R)) (results : Store I (StoredResult I R T)) → AreFree says same nodes runs results
     → (goals : List I) → AreSettled says same nodes results goals → AreSettled says same after results goals
-settled_finished {X} {I} {R} {A} {T} says same nodes after kept runs results free goals settled = record {
+settled_finished {I} {R} {T} says same nodes after kept runs results free goals settled = record {
   leads = λ goal s within at.
       leads_at s.nested_goals goal s.result.result s.node (free goal Success s at) (settled.leads goal s within at);
   require = settled.require;

@@ -62,7 +62,7 @@ there P None at = absurd at
 there P (Some x) at = refl
 
 module _ {X F I R A T : Type 0} (says : Verdicts R) (same : I → I → Bool) (nodes after : List (CacheNode I R))
-    (results : Store I (StoredResult X I R A T)) (entries : Lists I (ProvisionalCacheEntry X I R A T))
+    (results : Store I (StoredResult I R T)) (entries : Lists I (ProvisionalCacheEntry X I R A T))
     (s : OpenGoal X F I R A T) (below : List (OpenGoal X F I R A T))
     (h : AreJustified says nodes (runs_of (s ∷ below))) (r : R) (target : Option NodeId)
     (ended : HasResultNode says nodes after s.0.state.provisional_result s.1.node s.0.state.node s.1.progress r target)

@@ -14,7 +14,7 @@ use Rattle.two_runs.proofs.kinds.StandingApart.{apart_none}
 module _ {D C V P F I R A T : Type 0} (G : DelegateOf D C V P F I R A T)
     (same : I → I → Bool) (cx : C) (call : Call I) where
   -- the entries stand apart
-  pub entries_apart : (results : Store I (StoredResult C I R A T)) (goals : List (OpenGoal C F I R A T))
+  pub entries_apart : (results : Store I (StoredResult I R T)) (goals : List (OpenGoal C F I R A T))
       (entries : Lists I (ProvisionalCacheEntry C I R A T))
       → EntriesSuitCall G same cx call results goals entries → StandApart same results goals entries
   entries_apart results goals entries (NoneUsed off none) = apart_none same results goals entries none
@@ -22,20 +22,20 @@ module _ {D C V P F I R A T : Type 0} (G : DelegateOf D C V P F I R A T)
 
 module _ {D C V P F I R A T : Type 0} (G : DelegateOf D C V P F I R A T) (X : CxOf C I R A T)
     (same : I → I → Bool) (cx : C) where
-  entries_suit : (call : Call I) (results : Store I (StoredResult C I R A T)) (goals : List (OpenGoal C F I R A T))
+  entries_suit : (call : Call I) (results : Store I (StoredResult I R T)) (goals : List (OpenGoal C F I R A T))
       (entries : Lists I (ProvisionalCacheEntry C I R A T)) → EntriesSuitCall G same cx call results goals entries
       → StoredSuit G.ENABLE_PROVISIONAL_CACHE (G.script cx) same call.goals results
   entries_suit call results goals entries (NoneUsed off none) = inl off
   entries_suit call results goals entries (OneKind kept) = inr kept.reached
 
   -- between two moves they are settled
-  pub store_settled : (call : Call I) (given : Received R) (cache : Cache C I R A T) (e : Evaluation D C V P F I R A T)
+  pub store_settled : (call : Call I) (given : Received R) (cache : Cache C I R T) (e : Evaluation D C V P F I R A T)
       → Settles G X same cx call given cache e → IsSettledStore G X same cx call.goals cache.nodes cache.results
   store_settled call given cache e s =
       record { settled = s.settling.settled; suit = entries_suit call cache.results e.goals e.provisional s.entries }
 
   -- and stay so where nothing is stored, and nodes are added or finished
-  pub settled_stays : (goals : List I) (old new : Cache C I R A T) (runs : List (OpenRun I R))
+  pub settled_stays : (goals : List I) (old new : Cache C I R T) (runs : List (OpenRun I R))
       → AreFree (verdicts X) same old.nodes runs old.results → KeepsFinished old.nodes new.nodes
       → new.results ≡ old.results → IsSettledStore G X same cx goals old.nodes old.results
       → IsSettledStore G X same cx goals new.nodes new.results

@@ -24,7 +24,7 @@ on_err_if (Ok v) Q h from = tt
 on_err_if (Err fault) Q h from = from fault h
 
 module _ {D C V P F I R A T : Type 0} {G : DelegateOf D C V P F I R A T} {X : CxOf C I R A T} {same : I → I → Bool}
-    {same_result : R → R → Bool} {noop : Bool} {received : Received R} {old : Cache C I R A T}
+    {same_result : R → R → Bool} {noop : Bool} {received : Received R} {old : Cache C I R T}
     {e : Evaluation D C V P F I R A T} {starts : ℕ}
     (laws : AreLaws G X same same_result) (right : IsRightFor G X same old.cx received old e) (call : Call I)
     (awaits : Awaits G X same old.cx call received old e starts) (needs : CallNeedsTwoRuns G X old.cx call noop)
@@ -50,7 +50,7 @@ module _ {D C V P F I R A T : Type 0} {G : DelegateOf D C V P F I R A T} {X : Cx
           e.provisional stepped notes s.entries
 
   pub advanced_unmet :
-      {result : Result (Next R) (Fault I R)} {new : Cache C I R A T} {after : Evaluation D C V P F I R A T} {later : ℕ}
+      {result : Result (Next R) (Fault I R)} {new : Cache C I R T} {after : Evaluation D C V P F I R A T} {later : ℕ}
       → Advanced G X same same_result noop received old e starts result new after later → after.limits_met ≡ false
   advanced_unmet (FrameFailed fault goals failed) = s.settling.unmet
   advanced_unmet (Asked kind goal goals given new after later stepped asks keeps) =
@@ -69,7 +69,7 @@ module _ {D C V P F I R A T : Type 0} {G : DelegateOf D C V P F I R A T} {X : Cx
   advanced_unmet (NotNoted request goals left stepped) = s.settling.unmet
 
   pub advanced_settles :
-      {result : Result (Next R) (Fault I R)} {new : Cache C I R A T} {after : Evaluation D C V P F I R A T} {later : ℕ}
+      {result : Result (Next R) (Fault I R)} {new : Cache C I R T} {after : Evaluation D C V P F I R A T} {later : ℕ}
       → Advanced G X same same_result noop received old e starts result new after later
       → IfOk result (λ next. SettlesNext G X same old.cx call next new after)
   advanced_settles (FrameFailed fault goals failed) = tt
@@ -98,7 +98,7 @@ module _ {D C V P F I R A T : Type 0} {G : DelegateOf D C V P F I R A T} {X : Cx
 
   -- a move that fails leaves the stored results settled
   pub advanced_leaves :
-      {result : Result (Next R) (Fault I R)} {new : Cache C I R A T} {after : Evaluation D C V P F I R A T} {later : ℕ}
+      {result : Result (Next R) (Fault I R)} {new : Cache C I R T} {after : Evaluation D C V P F I R A T} {later : ℕ}
       → Advanced G X same same_result noop received old e starts result new after later
       → OnErr result (IsSettledStore G X same old.cx call.goals new.nodes new.results)
   advanced_leaves (FrameFailed fault goals failed) = store_settled G X same old.cx call received old e s

@@ -32,8 +32,8 @@ come_either (Err fault) Q P h from fails = fails
 -- a turn, told of a context that its cache has, too
 module _ {D C V P F I R A T : Type 0} {G : DelegateOf D C V P F I R A T} {X : CxOf C I R A T} {same : I → I → Bool}
     {same_result : R → R → Bool} {noop : Bool} (laws : AreLaws G X same same_result) {cx : C} {given : Received R}
-    {mid : Cache C I R A T} {between : Evaluation D C V P F I R A T} {now : ℕ} (context : mid.cx ≡ cx)
-    {result : Result (Next R) (Fault I R)} {new : Cache C I R A T} {after : Evaluation D C V P F I R A T} {later : ℕ}
+    {mid : Cache C I R T} {between : Evaluation D C V P F I R A T} {now : ℕ} (context : mid.cx ≡ cx)
+    {result : Result (Next R) (Fault I R)} {new : Cache C I R T} {after : Evaluation D C V P F I R A T} {later : ℕ}
     (turned : Turned G X same same_result noop given mid between now result new after later)
     (right : IsRightFor G X same cx given mid between) (call : Call I)
     (awaits : Awaits G X same cx call given mid between now) where
@@ -55,7 +55,7 @@ module _ {D C V P F I R A T : Type 0} {G : DelegateOf D C V P F I R A T} {X : Cx
 
 module _ {D C V P F I R A T : Type 0} {G : DelegateOf D C V P F I R A T} {X : CxOf C I R A T} {same : I → I → Bool}
     {same_result : R → R → Bool} {noop : Bool} (laws : AreLaws G X same same_result) {kind : PathKind} {goal : I}
-    {fate : Fate R} {old : Cache C I R A T} {e : Evaluation D C V P F I R A T} {starts : ℕ}
+    {fate : Fate R} {old : Cache C I R T} {e : Evaluation D C V P F I R A T} {starts : ℕ}
     (outset : IsAtOutset old e) (are_runs : AreRuns (verdicts X) (G.script old.cx) old.nodes)
     (sound : AreSoundResults same (verdicts X) (G.script old.cx) old.nodes old.results) where
   module _ (is_stored : fate ≡ becomes.Stored) (not_lone : IsLone same old.results goal → ⊥) (call : Call I)
@@ -63,7 +63,7 @@ module _ {D C V P F I R A T : Type 0} {G : DelegateOf D C V P F I R A T} {X : Cx
       (needs : CallNeedsTwoRuns G X old.cx call noop)
       (settled : IsSettledStore G X same old.cx call.goals old.nodes old.results) where
     ran_settles :
-        {result : Result (Next R) (Fault I R)} {new : Cache C I R A T} {after : Evaluation D C V P F I R A T}
+        {result : Result (Next R) (Fault I R)} {new : Cache C I R T} {after : Evaluation D C V P F I R A T}
         {later : ℕ} → Ran G X same same_result noop kind goal fate old e starts result new after later
         → IfStep result (λ given. Settles G X same old.cx call given new after)
     ran_settles (Began goals held nodes later pushes fates holds nodes_kept one counted) =
@@ -79,7 +79,7 @@ module _ {D C V P F I R A T : Type 0} {G : DelegateOf D C V P F I R A T} {X : Cx
         (λ next on. on)
 
     pub ran_unmet :
-        {result : Result (Next R) (Fault I R)} {new : Cache C I R A T}
+        {result : Result (Next R) (Fault I R)} {new : Cache C I R T}
         {after : Evaluation D C V P F I R A T} {later : ℕ}
         → Ran G X same same_result noop kind goal fate old e starts result new after later → after.limits_met ≡ false
     ran_unmet (Began goals held nodes later pushes fates holds nodes_kept one counted) =
@@ -92,7 +92,7 @@ module _ {D C V P F I R A T : Type 0} {G : DelegateOf D C V P F I R A T} {X : Cx
         (ran_waits laws outset are_runs sound call at ran) needs (ran_settles ran)).unmet
 
     pub ran_settled :
-        {result : Result (Next R) (Fault I R)} {new : Cache C I R A T} {after : Evaluation D C V P F I R A T}
+        {result : Result (Next R) (Fault I R)} {new : Cache C I R T} {after : Evaluation D C V P F I R A T}
         {later : ℕ} → Ran G X same same_result noop kind goal fate old e starts result new after later
         → HasCome result (IsSettledStore G X same old.cx call.goals new.nodes new.results)
     ran_settled (Began goals held nodes later pushes fates holds nodes_kept one counted) = tt
@@ -108,12 +108,12 @@ module _ {D C V P F I R A T : Type 0} {G : DelegateOf D C V P F I R A T} {X : Cx
 
 module _ {D C V P F I R A T : Type 0} {G : DelegateOf D C V P F I R A T} {X : CxOf C I R A T} {same : I → I → Bool}
     {same_result : R → R → Bool} {noop : Bool} (laws : AreLaws G X same same_result) {kind : PathKind} {goal : I}
-    {fate : Fate R} {old : Cache C I R A T} {e : Evaluation D C V P F I R A T} {starts : ℕ}
+    {fate : Fate R} {old : Cache C I R T} {e : Evaluation D C V P F I R A T} {starts : ℕ}
     (outset : IsAtOutset old e) (are_runs : AreRuns (verdicts X) (G.script old.cx) old.nodes)
     (sound : AreSoundResults same (verdicts X) (G.script old.cx) old.nodes old.results)
     (fated : IsFated (G.scoped old.cx) (G.script old.cx) same old.results noop
     (record { goal = goal; depth = e.root_depth.0; fate = fate }))
-    {new : Cache C I R A T} {after : Evaluation D C V P F I R A T} {later : ℕ} where
+    {new : Cache C I R T} {after : Evaluation D C V P F I R A T} {later : ℕ} where
   pub call_ends_settled :
       (result : Result (Answer R) (Fault I R))
       → Ran G X same same_result noop kind goal fate old e starts (ended result) new after later → fate ≡ becomes.Stored

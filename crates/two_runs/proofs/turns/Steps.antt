@@ -46,7 +46,7 @@ use Rattle.search_graph.proofs.requests.Noted.{ignoring_run, may_ignore}
 -- ---- the reply is on record
 
 module _ {X F I R A T : Type 0} (says : Verdicts R) (same : I → I → Bool) (nodes : List (CacheNode I R))
-    (results : Store I (StoredResult X I R A T)) (entries : Lists I (ProvisionalCacheEntry X I R A T))
+    (results : Store I (StoredResult I R T)) (entries : Lists I (ProvisionalCacheEntry X I R A T))
     (entry : StackEntry X I R A T) (run : Run X F I R A T) (below : List (OpenGoal X F I R A T)) where
   abbrev pub WithAnswers : List (DefiniteAnswer I) → Type 0
   WithAnswers answers = StaysOff says same nodes results entries (record (run_of (entry, run)) { answers = answers })
@@ -93,7 +93,7 @@ module _ {X F I R A T : Type 0} (says : Verdicts R) (same : I → I → Bool) (n
 -- ---- the request is, and what it notes of candidates
 
 module _ {D C V P F I R A T : Type 0} (G : DelegateOf D C V P F I R A T) (X : CxOf C I R A T) (cx : C)
-    (same : I → I → Bool) (nodes : List (CacheNode I R)) (results : Store I (StoredResult C I R A T))
+    (same : I → I → Bool) (nodes : List (CacheNode I R)) (results : Store I (StoredResult I R T))
     (entries : Lists I (ProvisionalCacheEntry C I R A T)) where
   abbrev Goals : Type 0
   Goals = List (OpenGoal C F I R A T)
@@ -278,7 +278,7 @@ module _ {D C V P F I R A T : Type 0} (G : DelegateOf D C V P F I R A T) (X : Cx
 -- what is noted is no answer
 pub noted_stays_off : {X F I R A T : Type 0} (says : Verdicts R) (same : I → I → Bool)
     (by_value : (x y : I) → same x y ≡ true → x ≡ y) (nodes : List (CacheNode I R))
-    (results : Store I (StoredResult X I R A T)) (entries : Lists I (ProvisionalCacheEntry X I R A T))
+    (results : Store I (StoredResult I R T)) (entries : Lists I (ProvisionalCacheEntry X I R A T))
     (items : List (OpenGoal X F I R A T)) → AnswerStaysOff says same nodes results entries items Noted None
 noted_stays_off says same by_value nodes results entries items = begin_stays_off says same by_value nodes results
     entries items Noted None (λ r is. let clash : Noted ≡ Answer r = is in cc)
@@ -286,7 +286,7 @@ noted_stays_off says same by_value nodes results entries items = begin_stays_off
 -- the same of the entries, also where the context is named otherwise
 pub stepped_entries : {D C V P F I R A T : Type 0} (G : DelegateOf D C V P F I R A T) (X : CxOf C I R A T)
     (same : I → I → Bool) (cx there : C) → there ≡ cx
-    → (call : Call I) (given : Received R) (request : Request I R) (results : Store I (StoredResult C I R A T))
+    → (call : Call I) (given : Received R) (request : Request I R) (results : Store I (StoredResult I R T))
     (old mid after : List (OpenGoal C F I R A T)) (entries : Lists I (ProvisionalCacheEntry C I R A T))
     → HasStepped G X there given request old mid → NotesCandidate request mid after
     → EntriesSuitCall G same cx call results old entries → EntriesSuitCall G same cx call results after entries
@@ -298,7 +298,7 @@ stepped_entries G X same cx there is call given request results old mid after en
 
 -- a question has depth
 module _ {D C V P F I R A T : Type 0} (G : DelegateOf D C V P F I R A T) (X : CxOf C I R A T) (same : I → I → Bool)
-    (cx : C) (kind : PathKind) (goal : I) (old : Cache C I R A T) (e : Evaluation D C V P F I R A T) (starts : ℕ)
+    (cx : C) (kind : PathKind) (goal : I) (old : Cache C I R T) (e : Evaluation D C V P F I R A T) (starts : ℕ)
     (call : Call I) (ahead : ℕ) (noop : Bool) (needs : CallNeedsTwoRuns G X cx call noop)
     (asked : Requests G X same cx (Evaluate kind goal) call ahead old e starts) where
   depth_there : (depth : Option ℕ) → question_depth G e ≡ depth → is_none depth ≡ false
@@ -316,7 +316,7 @@ module _ {D C V P F I R A T : Type 0} (G : DelegateOf D C V P F I R A T) (X : Cx
 
 -- where nothing is found that is stored of its goal, this is not lone
 pub top_is_not_lone : {D C V P F I R A T : Type 0} (G : DelegateOf D C V P F I R A T) (X : CxOf C I R A T) (cx : C)
-    (same : I → I → Bool) (call : Call I) (noop : Bool) (results : Store I (StoredResult C I R A T))
+    (same : I → I → Bool) (call : Call I) (noop : Bool) (results : Store I (StoredResult I R T))
     (goal : I) (root starts : ℕ) (met : Bool)
     → CallNeedsTwoRuns G X cx call noop → LoneRequire same results call.goals → Outset call goal root starts met
     → first_accepted (λ nested. true) (usable same results goal root) ≡ None → IsLone same results goal → ⊥
@@ -343,7 +343,7 @@ begins_unscoped G X cx call noop goal root starts met needs at =
 pub begins_settles :
     {D C V P F I R A T : Type 0} (G : DelegateOf D C V P F I R A T) (X : CxOf C I R A T) (same : I → I → Bool)
     (by_value : (x y : I) → same x y ≡ true → x ≡ y) (own : (x : I) → same x x ≡ true) (cx : C) (kind : PathKind)
-    (goal : I) (old : Cache C I R A T) (e : Evaluation D C V P F I R A T) (is_new : IsNew e)
+    (goal : I) (old : Cache C I R T) (e : Evaluation D C V P F I R A T) (is_new : IsNew e)
     (depth : AvailableDepth) (goals : List (OpenGoal C F I R A T)) (held : List V) (nodes : List (CacheNode I R))
     (pushes : Pushes G X cx goal kind depth old.nodes nodes e.goals goals) (fate : Fate R)
     → fates_of goals ≡ record { goal = goal; depth = depth.0; fate = fate } ∷ fates_of e.goals

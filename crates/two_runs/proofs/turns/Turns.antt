@@ -12,7 +12,7 @@ use Rattle.search_questions.specs.Collecting.{LetsGo}
 
 -- what is kept when nodes are let go, before the newest goal gets a reply
 module _ {D C V P F I R A T : Type 0} (G : DelegateOf D C V P F I R A T) (X : CxOf C I R A T) (same : I → I → Bool)
-    (cx : C) (e after : Evaluation D C V P F I R A T) (mid new : Cache C I R A T)
+    (cx : C) (e after : Evaluation D C V P F I R A T) (mid new : Cache C I R T)
     (given : Received R) (goes : LetsGo same e given.node mid new)
     (is_after : after ≡ record e { drafts = after.drafts }) where
   pub turn_settles : (call : Call I) → Settles G X same cx call given mid e → Settles G X same cx call given new after
@@ -22,13 +22,13 @@ module _ {D C V P F I R A T : Type 0} (G : DelegateOf D C V P F I R A T) (X : Cx
       (record { settling = s.settling; answer = s.answer; entries = s.entries })
 
 module _ {D C V P F I R A T : Type 0} {G : DelegateOf D C V P F I R A T} {X : CxOf C I R A T} {same : I → I → Bool}
-    {same_result : R → R → Bool} {noop : Bool} {received : Received R} {old : Cache C I R A T}
+    {same_result : R → R → Bool} {noop : Bool} {received : Received R} {old : Cache C I R T}
     {e : Evaluation D C V P F I R A T} {starts : ℕ}
     (laws : AreLaws G X same same_result) (right : IsRightFor G X same old.cx received old e) (call : Call I)
     (h : Awaits G X same old.cx call received old e starts) (needs : CallNeedsTwoRuns G X old.cx call noop)
     (s : Settles G X same old.cx call received old e) where
   pub turned_unmet :
-      {result : Result (Next R) (Fault I R)} {new : Cache C I R A T} {after : Evaluation D C V P F I R A T} {later : ℕ}
+      {result : Result (Next R) (Fault I R)} {new : Cache C I R T} {after : Evaluation D C V P F I R A T} {later : ℕ}
       → Turned G X same same_result noop received old e starts result new after later → after.limits_met ≡ false
   turned_unmet (GoesOn given mid new between after later advanced goes is first stored) =
       ap (λ (a : Evaluation D C V P F I R A T). a.limits_met) is ∙ advanced_unmet laws right call h needs s advanced
@@ -40,7 +40,7 @@ module _ {D C V P F I R A T : Type 0} {G : DelegateOf D C V P F I R A T} {X : Cx
       ap (λ (a : Evaluation D C V P F I R A T). a.limits_met) is ∙ advanced_unmet laws right call h needs s advanced
 
   pub turned_settles :
-      {result : Result (Next R) (Fault I R)} {new : Cache C I R A T} {after : Evaluation D C V P F I R A T} {later : ℕ}
+      {result : Result (Next R) (Fault I R)} {new : Cache C I R T} {after : Evaluation D C V P F I R A T} {later : ℕ}
       → Turned G X same same_result noop received old e starts result new after later
       → IfOk result (λ next. SettlesNext G X same old.cx call next new after)
   turned_settles (GoesOn given mid new between after later advanced goes is first stored) =
@@ -54,7 +54,7 @@ module _ {D C V P F I R A T : Type 0} {G : DelegateOf D C V P F I R A T} {X : Cx
   turned_settles (FailedForGood fault new between after later advanced is) = tt
 
   pub turned_leaves :
-      {result : Result (Next R) (Fault I R)} {new : Cache C I R A T} {after : Evaluation D C V P F I R A T} {later : ℕ}
+      {result : Result (Next R) (Fault I R)} {new : Cache C I R T} {after : Evaluation D C V P F I R A T} {later : ℕ}
       → Turned G X same same_result noop received old e starts result new after later
       → OnErr result (IsSettledStore G X same old.cx call.goals new.nodes new.results)
   turned_leaves (GoesOn given mid new between after later advanced goes is first stored) = tt

@@ -3,6 +3,7 @@ use Rattle.global_cache.specs.Below.{verdicts}
 use Rattle.global_cache.specs.Cache.{Cache}
 use Rattle.global_cache.specs.Words.{Success, WithOverflow, StoredResult, stored_at, AnswersStoring, AreSoundResults}
 use Rattle.global_cache.specs.Words.{IsPlainAt, KeepsResults}
+use Rattle.global_cache.proofs.Stores.{KeepsResults-answered}
 use Rattle.global_cache.proofs.Stored.{ranked_never_conflicts}
 use Rattle.global_cache.proofs.Sound.{IsSoundCache-stored}
 use Rattle.global_cache.proofs.GlobalCache.insert.Goals as goal
@@ -12,13 +13,15 @@ invariant_of-self g c =
     IsSoundCache-stored g.D.Cx.Input.PartialEq.eq (verdicts g.D.Cx.Cx) g.D.Delegate.script c.self.inside.cx _
     c.self.inside.results c.args.self.now c.self.view_is c.self.invariant
     g.met.D.Cx.Cx.same_input c.put.result c.put.new.self c.args.input c.args.evaluation_result c.args.token
-    c.of-place.result c.new-found.result
-    c.requires.graph c.requires.plain c.of-place.ensures c.new-found.ensures c.put.ensures.ok c.put.ensures.err
+    c.of-place.result c.stored_of-found.result
+    c.requires.graph c.requires.plain c.of-place.ensures c.stored_of-found.ensures c.put.ensures.ok c.put.ensures.err
 
 pub returns-clause-kept : goal.returns-clause-kept
 returns-clause-kept g c =
-    subst (λ (v : Cache _ _ _ _ _). KeepsResults g.D.Cx.Input.PartialEq.eq v.results c.put.new.self)
-    c.self.view_is c.put.ensures.kept
+    subst (λ (v : Cache _ _ _ _). KeepsResults g.D.Cx.Input.PartialEq.eq v.results c.put.new.self) c.self.view_is
+    (KeepsResults-answered g.D.Cx.Input.PartialEq.eq g.met.D.Cx.Cx.same_input g.D.Cx.Result.PartialEq.eq
+    g.met.D.Cx.Cx.same_result c.put.result c.self.inside.results c.put.new.self c.args.input c.of-place.result
+    c.stored_of-found.result c.put.ensures.ok c.put.ensures.err c.put.ensures.answer)
 
 pub returns-clause-ranked : goal.returns-clause-ranked
 returns-clause-ranked g c = λ n ranked calm.
@@ -33,6 +36,6 @@ returns-clause-ranked g c = λ n ranked calm.
     (stored_at g.D.Cx.Input.PartialEq.eq c.self.inside.results c.args.input c.of-place.result)
     (ap (λ v. stored_at g.D.Cx.Input.PartialEq.eq v.results c.args.input Success) (sym c.self.view_is)
     ∙ ap (stored_at g.D.Cx.Input.PartialEq.eq c.self.inside.results c.args.input) (sym place)) c.put.result
-    (subst (λ (s : StoredResult _ _ _ _ _). AnswersStoring g.D.Cx.Result.PartialEq.eq c.args.input
+    (subst (λ (s : StoredResult _ _ _). AnswersStoring g.D.Cx.Result.PartialEq.eq c.args.input
     (stored_at g.D.Cx.Input.PartialEq.eq c.self.inside.results c.args.input c.of-place.result) s.result.result
-    c.put.result) c.new-found.ensures c.put.ensures.answer)
+    c.put.result) c.stored_of-found.ensures c.put.ensures.answer)

@@ -5,7 +5,7 @@ use Rattle.two_runs.specs.Evaluations.{IsSettledStore}
 
 pub returns : goal.returns
 returns g c = λ cx nodes goals results none.
-    subst (λ (rs : Store _ (StoredResult _ _ _ _ _)).
+    subst (λ (rs : Store _ (StoredResult _ _ _)).
     IsSettledStore g.D.Delegate g.D.Cx.Cx g.D.Cx.Input.PartialEq.eq cx goals nodes rs) (sym none)
     (record {
       settled = record { leads = λ goal s within at. absurd cc; require = λ goal s within at empty. absurd cc };
