@@ -8,4 +8,5 @@ pub mod Reasons
 pub mod Apart
 pub mod Determined
 pub mod Closed
+pub mod Kept
 pub mod LoopExample

@@ -5,7 +5,7 @@ pub use Rattle.path_kinds.specs.Path.{greater_kind}
 pub use Rattle.search_context.specs.Decisive.{AreDecided, IsDecidedKind, IsDecidedReply, IsDecisive}
 pub use Rattle.search_context.specs.Delegate.{IsCycleResult}
 pub use Rattle.search_context.specs.Graph.{GraphNode, HasEdge, HasGoal, IsGraph, IsProofGraph, IsRefutationGraph}
-pub use Rattle.search_context.specs.Graph.{IsWalk, question_of, walk_kind}
+pub use Rattle.search_context.specs.Graph.{IsReached, IsWalk, question_of, walk_kind}
 pub use Rattle.search_context.specs.Question.{IsWithin, Overlap, Question}
 pub use Rattle.search_context.specs.Rank.{AsksOnly}
 pub use Rattle.search_context.specs.Run.{Asked, EndsIn, IsFitting, IsInOrder, IsOrderly, IsReplyTo, Progress}

@@ -1,3 +1,4 @@
 pub mod Below
 pub mod Closed
 pub mod Given
+pub mod Kept

@@ -1,10 +1,11 @@
 //! Where a delegate is decisive, each goal of a closed list has one of the two graphs.
-ghost use Rattle.std.specs.Prelude.{◌≡◌, ℕ, true, Bool, List, Option, Contains};
+ghost use Rattle.std.specs.Prelude.{◌≡◌, ℕ, true, false, Bool, List, Option, Contains};
 ghost use Rattle.determined.specs.Below.{IsDecisive, Question, verdicts};
 ghost use Rattle.determined.specs.Closed.{ExactlyOne, HasProof, HasRefutation, IsClosed, IsExact};
+ghost use Rattle.determined.specs.Kept.{KeepsRule};
 ghost use Rattle.determined.specs.Given.{HasProofOver, HasRefutationOver, IsClosedButGiven};
 
-use search_context::context::Delegate;
+use search_context::context::{Cx, Delegate};
 
 /// Each goal of a closed list has a proof graph or a refutation graph, and not both.
 pub fn has_one<D: Delegate>()
@@ -34,4 +35,15 @@ pub fn has_one_over_given<D: Delegate>()
         (goal : D.Cx.Input) → Contains goals goal →
         ExactlyOne (HasProofOver given (D.Cx.proves cx) goal)
         (HasRefutationOver given (D.Cx.refutes cx) goal) }
+{}
+
+/// Where rules change, each goal that stays keeps what it has of the two graphs. A goal stays if its rules are what they
+/// were, and ask goals that stay alone: then its graph, without what leads to other goals, is one by the rules after.
+pub fn graphs_stay<X: Cx>()
+    ensures proof { (is_gone : X.Input → Bool) (before after : X) →
+        KeepsRule is_gone (X.proves before) (X.proves after) → (goal : X.Input) → is_gone goal ≡ false →
+        HasProof (X.proves before) goal → HasProof (X.proves after) goal }
+    ensures refutation { (is_gone : X.Input → Bool) (before after : X) →
+        KeepsRule is_gone (X.refutes before) (X.refutes after) → (goal : X.Input) → is_gone goal ≡ false →
+        HasRefutation (X.refutes before) goal → HasRefutation (X.refutes after) goal }
 {}

@@ -7,10 +7,12 @@
 //! |---|---|
 //! | `Closed` | lists of goals that no question leads out of; goals that have a graph |
 //! | `Given` | the same where the truth of some questions is given |
+//! | `Kept` | rules that change, and goals that stay as they were |
 //!
 //! How the graphs come about is said by the lemmas of `proofs/`: `Runs` for a script that is answered as its questions
 //! are true, `Growth` and `Rounds` for the places of the list that are won or lost, `Built`, `Steps` and `Reasons` for
-//! the graphs that are made of these. `proofs/LoopExample` shows that the premises can be met.
+//! the graphs that are made of these, and `Kept` for graphs where rules change. `proofs/LoopExample` shows that the
+//! premises can be met.
 #![tactic(auto)]
 
 pub mod law;

@@ -21,7 +21,7 @@ impl<X: Cx> NestedTest<X> for Anything {
 
     ghost accepts = { λ _ _. true };
 
-    fn accepts(&self, _nested_goals: &NestedGoals<X>) -> bool {
+    fn accepts(&self, _nested_goals: &NestedGoals<X::Input>) -> bool {
         true
     }
 }

@@ -78,9 +78,9 @@ fn refused_calls_change_nothing(rt: HostRuntime) -> Result<(), Fail> {
 /// Whether all is kept where the calls are refused, and all is done in the end.
 fn is_kept(alloc: Global, call: Call) -> Result<bool, NoMemory> {
     match call {
-        Call::NestedGoal => keeps_nested_goals::<LoopsContext>(alloc),
-        Call::GoalsOfAChild => keeps_goals_of_a_child::<LoopsContext>(alloc),
-        Call::GoalsThatAChildGives => keeps_given_goals::<LoopsContext>(alloc),
+        Call::NestedGoal => keeps_nested_goals(alloc),
+        Call::GoalsOfAChild => keeps_goals_of_a_child(alloc),
+        Call::GoalsThatAChildGives => keeps_given_goals(alloc),
         Call::Push => keeps_stack::<LoopsContext>(alloc),
         Call::Head => keeps_heads(alloc),
         Call::Usages => keeps_usages(alloc),
@@ -92,14 +92,12 @@ fn is_kept(alloc: Global, call: Call) -> Result<bool, NoMemory> {
     }
 }
 
-fn keeps_nested_goals<X: Cx<Input = PathKind>>(alloc: Global) -> Result<bool, NoMemory> {
-    let mut goals = NestedGoals::<X>::new(alloc);
+fn keeps_nested_goals(alloc: Global) -> Result<bool, NoMemory> {
+    let mut goals = NestedGoals::<PathKind>::new(alloc);
     keeps_each_nested_goal(&mut goals)
 }
 
-fn keeps_each_nested_goal<X: Cx<Input = PathKind>>(
-    goals: &mut NestedGoals<X>,
-) -> Result<bool, NoMemory> {
+fn keeps_each_nested_goal(goals: &mut NestedGoals<PathKind>) -> Result<bool, NoMemory> {
     for goal in &KINDS {
         if !keeps_nested_goal(goals, *goal)? {
             return Ok(false);
@@ -109,10 +107,7 @@ fn keeps_each_nested_goal<X: Cx<Input = PathKind>>(
 }
 
 /// Inserts a new goal, and then the same once more.
-fn keeps_nested_goal<X: Cx<Input = PathKind>>(
-    goals: &mut NestedGoals<X>,
-    goal: PathKind,
-) -> Result<bool, NoMemory> {
+fn keeps_nested_goal(goals: &mut NestedGoals<PathKind>, goal: PathKind) -> Result<bool, NoMemory> {
     let others = goals.len();
     if goals.insert(goal, PathsToNested::EMPTY).is_err() {
         if goals.len() != others || goals.contains(goal) {
@@ -127,7 +122,7 @@ fn keeps_nested_goal<X: Cx<Input = PathKind>>(
 }
 
 /// Inserts these goals with the path of no step to each, and says whether there was memory.
-fn inserts_all<X: Cx<Input = PathKind>>(goals: &mut NestedGoals<X>, inputs: &[PathKind]) -> bool {
+fn inserts_all(goals: &mut NestedGoals<PathKind>, inputs: &[PathKind]) -> bool {
     for goal in inputs {
         if goals.insert(*goal, PathsToNested::EMPTY).is_err() {
             return false;
@@ -137,24 +132,20 @@ fn inserts_all<X: Cx<Input = PathKind>>(goals: &mut NestedGoals<X>, inputs: &[Pa
 }
 
 /// Whether there are so many goals, and these are the paths to the unknown one.
-fn has_unknown<X: Cx<Input = PathKind>>(
-    goals: &NestedGoals<X>,
-    count: usize,
-    paths: PathsToNested,
-) -> bool {
+fn has_unknown(goals: &NestedGoals<PathKind>, count: usize, paths: PathsToNested) -> bool {
     goals.len() == count && goals.get(PathKind::Unknown) == Some(paths)
 }
 
-fn keeps_goals_of_a_child<X: Cx<Input = PathKind>>(alloc: Global) -> Result<bool, NoMemory> {
-    let mut child = NestedGoals::<X>::new(alloc);
-    let mut goals = NestedGoals::<X>::new(alloc);
+fn keeps_goals_of_a_child(alloc: Global) -> Result<bool, NoMemory> {
+    let mut child = NestedGoals::<PathKind>::new(alloc);
+    let mut goals = NestedGoals::<PathKind>::new(alloc);
     extends(&mut goals, &mut child)
 }
 
 /// Joins the four goals of a child to the unknown one.
-fn extends<X: Cx<Input = PathKind>>(
-    goals: &mut NestedGoals<X>,
-    child: &mut NestedGoals<X>,
+fn extends(
+    goals: &mut NestedGoals<PathKind>,
+    child: &mut NestedGoals<PathKind>,
 ) -> Result<bool, NoMemory> {
     if !inserts_all(child, &KINDS) || !inserts_all(goals, &[PathKind::Unknown]) {
         return Err(NoMemory);
@@ -170,16 +161,13 @@ fn extends<X: Cx<Input = PathKind>>(
     Ok(has_unknown(goals, 4, both))
 }
 
-fn keeps_given_goals<X: Cx<Input = PathKind>>(alloc: Global) -> Result<bool, NoMemory> {
-    let mut goals = NestedGoals::<X>::new(alloc);
+fn keeps_given_goals(alloc: Global) -> Result<bool, NoMemory> {
+    let mut goals = NestedGoals::<PathKind>::new(alloc);
     takes_at_last(alloc, &mut goals)
 }
 
 /// Joins the goals that a child gives to the unknown one.
-fn takes_at_last<X: Cx<Input = PathKind>>(
-    alloc: Global,
-    goals: &mut NestedGoals<X>,
-) -> Result<bool, NoMemory> {
+fn takes_at_last(alloc: Global, goals: &mut NestedGoals<PathKind>) -> Result<bool, NoMemory> {
     if !inserts_all(goals, &[PathKind::Unknown]) {
         return Err(NoMemory);
     }
@@ -194,11 +182,8 @@ fn takes_at_last<X: Cx<Input = PathKind>>(
 }
 
 /// Takes the two goals of a child, and says whether there was memory.
-fn takes<X: Cx<Input = PathKind>>(
-    alloc: Global,
-    goals: &mut NestedGoals<X>,
-) -> Result<bool, NoMemory> {
-    let mut child = NestedGoals::<X>::new(alloc);
+fn takes(alloc: Global, goals: &mut NestedGoals<PathKind>) -> Result<bool, NoMemory> {
+    let mut child = NestedGoals::<PathKind>::new(alloc);
     if !inserts_all(&mut child, &[PathKind::Inductive, PathKind::Coinductive]) {
         return Err(NoMemory);
     }

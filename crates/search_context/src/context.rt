@@ -66,9 +66,9 @@ pub trait Cx: Copy {
 
 /// A result with the token that it is tracked by. Ports `Cx::Tracked`.
 #[derive(Drop)]
-pub struct Tracked<X: Cx> {
-    pub result: X::Result,
-    pub token: X::DepNodeIndex,
+pub struct Tracked<R, T> {
+    pub result: R,
+    pub token: T,
 }
 
 /// What a frame asks for.

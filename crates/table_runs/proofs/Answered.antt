@@ -31,7 +31,7 @@ paid runs root depth last old before new started r o s h = subst (λ n. IsPaid r
 -- a call that was made on a new graph, with a new builder, as it is told
 pub call_told : {D C V P F A T : Type 0} (G : DelegateOf D C V P F Goal Outcome A T) (X : CxOf C Goal Outcome A T)
     (same : Goal → Goal → Bool) (same_result : Outcome → Outcome → Bool)
-    (goal : Goal) (depth : ℕ) (before after : Cache C Goal Outcome A T) (noop : Bool) (graph left : Graph)
+    (goal : Goal) (depth : ℕ) (before after : Cache C Goal Outcome T) (noop : Bool) (graph left : Graph)
     (from to started : ℕ) (answer : Answer Outcome)
     → noop ≡ true → graph ≡ record { root_depth = depth; limits_met = false } → from ≡ 0 → started ≡ to
     → HasRun G X same same_result (call_on noop goal before graph from answer after left to)
@@ -60,7 +60,7 @@ told_rightly X cx goal (Err fault) right shown = tt
 module _ {D C V P F A T : Type 0} (G : DelegateOf D C V P F Goal Outcome A T) (X : CxOf C Goal Outcome A T)
     (same : Goal → Goal → Bool) (same_result : Outcome → Outcome → Bool) (checks : Checks) where
   -- one question more
-  InTurn-more : (before between after : Cache C Goal Outcome A T) (last : AnsweredQuestion) →
+  InTurn-more : (before between after : Cache C Goal Outcome T) (last : AnsweredQuestion) →
       IsAnswered G X same same_result checks between last after → IsSoundCache same (verdicts X) G.script after →
       (all : List AnsweredQuestion) → InTurn G X same same_result checks before all between →
       InTurn G X same same_result checks before (all ++ last ∷ []) after
@@ -71,7 +71,7 @@ module _ {D C V P F A T : Type 0} (G : DelegateOf D C V P F Goal Outcome A T) (X
 
   module _ (cx : C) where
     -- The questions were answered in turn, and left this cache. What is remembered as shown is shown by the rules.
-    pub record HaveLed (cache : Cache C Goal Outcome A T) (shown : List (Goal × Outcome × NodeId))
+    pub record HaveLed (cache : Cache C Goal Outcome T) (shown : List (Goal × Outcome × NodeId))
         (answered : List AnsweredQuestion) : Type 0 where
       pub in_turn : LeaveCache G X same same_result checks cx cache answered
       pub same_context : cache.cx ≡ cx
@@ -85,7 +85,7 @@ module _ {D C V P F A T : Type 0} (G : DelegateOf D C V P F Goal Outcome A T) (X
       are_right = All-nil (λ a. IfOk a.came (IsRightlyTold X cx a.question.1));
     }
 
-    pub none_led : (cache : Cache C Goal Outcome A T) (shown : List (Goal × Outcome × NodeId)) →
+    pub none_led : (cache : Cache C Goal Outcome T) (shown : List (Goal × Outcome × NodeId)) →
         cache ≡ record { cx = cx; nodes = []; results = [] } → shown ≡ [] → HaveLed cache shown []
     none_led cache shown empty none = record {
       in_turn = sym empty;
@@ -94,12 +94,12 @@ module _ {D C V P F A T : Type 0} (G : DelegateOf D C V P F Goal Outcome A T) (X
       are_right = All-nil (λ a. IfOk a.came (IsRightlyTold X cx a.question.1));
     }
 
-    pub all_in_turn : (cache : Cache C Goal Outcome A T) (shown : List (Goal × Outcome × NodeId))
+    pub all_in_turn : (cache : Cache C Goal Outcome T) (shown : List (Goal × Outcome × NodeId))
         (all : List AnsweredQuestion) → HaveLed cache shown all → AreInTurn G X same same_result checks cx all
     all_in_turn cache shown all led = record { after = cache; in_turn = led.in_turn; are_right = led.are_right }
 
     -- one question more, over the cache that the others left
-    pub led_on : (before after : Cache C Goal Outcome A T) (old new : List (Goal × Outcome × NodeId))
+    pub led_on : (before after : Cache C Goal Outcome T) (old new : List (Goal × Outcome × NodeId))
         (last : AnsweredQuestion) → IsAnswered G X same same_result checks before last after →
         IsSoundCache same (verdicts X) G.script after →
         IfOk last.came (λ told. IsRightOutcome X before.cx last.question.1 told.outcome) →

@@ -17,7 +17,7 @@ use Rattle.table_runs.specs.Right.{IsRightOutcome, Proved, Refuted, SomeGraphSho
 
 -- ---- by the search
 
-module _ {C A T : Type 0} (X : CxOf C Goal Outcome A T) (cache : Cache C Goal Outcome A T) (goal : Goal) where
+module _ {C A T : Type 0} (X : CxOf C Goal Outcome A T) (cache : Cache C Goal Outcome T) (goal : Goal) where
   has_proof : (node : Option NodeId) → IsProved X cache goal node → HasProof (X.proves cache.cx) goal
   has_proof None proved = absurd proved.graph
   has_proof (Some root) proved = (graph_nodes_of cache.nodes, root.0, proved.graph)

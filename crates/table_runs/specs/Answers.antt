@@ -15,8 +15,8 @@ AreCountedStarts starts noop =
     (builder : Builder) → (starts builder ≡ started_in builder) × (noop builder ≡ is_noop_of builder)
 
 -- a call for the goal over the cache `before`, on this graph, that came to this answer
-abbrev pub call_on : {C A T : Type 0} → (noop : Bool) → Goal → (before : Cache C Goal Outcome A T) → Graph
-    → (starts : ℕ) → Answer Outcome → (after : Cache C Goal Outcome A T) → (left : Graph)
+abbrev pub call_on : {C A T : Type 0} → (noop : Bool) → Goal → (before : Cache C Goal Outcome T) → Graph
+    → (starts : ℕ) → Answer Outcome → (after : Cache C Goal Outcome T) → (left : Graph)
     → (now : ℕ) → Called C Goal Outcome A T
 call_on noop goal before graph starts answer after left now = record {
   goal = goal;
@@ -31,8 +31,8 @@ module _ {D C V P F A T : Type 0} (G : DelegateOf D C V P F Goal Outcome A T) (X
     (same : Goal → Goal → Bool) (same_result : Outcome → Outcome → Bool) (checks : Checks) where
   -- The question was asked with its depth on a new graph over the cache `before`, with a new builder, and left the
   -- cache `after`. What it came to is what the search promises of such a call.
-  pub record IsAnswered (before : Cache C Goal Outcome A T) (answered : AnsweredQuestion)
-      (after : Cache C Goal Outcome A T) : Type 0 where
+  pub record IsAnswered (before : Cache C Goal Outcome T) (answered : AnsweredQuestion)
+      (after : Cache C Goal Outcome T) : Type 0 where
     -- A goal whose questions go no deeper than the depth, and that is orderly with all goals below
     -- it, has its plain value.
     pub plain : (n : ℕ) → IsPlainTo (G.script before.cx) n answered.question.1 → n ≤ answered.question.0
@@ -69,19 +69,19 @@ module _ {D C V P F A T : Type 0} (G : DelegateOf D C V P F Goal Outcome A T) (X
 
   -- The questions were answered in this order, each over the cache that the one before it left. Each of these caches is
   -- sound: its finished nodes are runs of their goals, and its stored results have their graphs.
-  abbrev pub InTurn : Cache C Goal Outcome A T → List AnsweredQuestion → Cache C Goal Outcome A T → Type 0
+  abbrev pub InTurn : Cache C Goal Outcome T → List AnsweredQuestion → Cache C Goal Outcome T → Type 0
   InTurn before [] after = before ≡ after
   InTurn before (first ∷ others) after =
-      (between : Cache C Goal Outcome A T) × IsAnswered before first between
+      (between : Cache C Goal Outcome T) × IsAnswered before first between
       × IsSoundCache same (verdicts X) G.script between × InTurn between others after
 
   -- the first of them over an empty cache, and the last one left this cache
-  abbrev pub LeaveCache : C → Cache C Goal Outcome A T → List AnsweredQuestion → Type 0
+  abbrev pub LeaveCache : C → Cache C Goal Outcome T → List AnsweredQuestion → Type 0
   LeaveCache cx after answered = InTurn (record { cx = cx; nodes = []; results = [] }) answered after
 
   -- They were answered so, and by the rules alone each answer is right.
   pub record AreInTurn (cx : C) (answered : List AnsweredQuestion) : Type 0 where
-    pub after : Cache C Goal Outcome A T
+    pub after : Cache C Goal Outcome T
     pub in_turn : LeaveCache cx after answered
     pub are_right : AreRight X cx answered
 

@@ -8,6 +8,8 @@ pub use Rattle.search_context.specs.Verdicts.{IsDefinite, verdicts, Verdicts}
 pub use Rattle.search_context.specs.Valid.{goal_nodes_of, IsValid, IsValidFor}
 pub use Rattle.search_context.specs.Graph.{IsProofGraph, IsRefutationGraph}
 pub use Rattle.determined.specs.Closed.{HasProof, HasRefutation}
+pub use Rattle.determined.specs.Kept.{KeepsRule}
+pub use Rattle.graph_nodes.specs.Forgotten.{is_among}
 pub use Rattle.graph_nodes.specs.Definite.{HasGraph}
 pub use Rattle.search_graph.specs.Below.{IsPaid}
 pub use Rattle.search_graph.specs.Called.{Called, HasRun}

@@ -11,7 +11,7 @@
 mod program;
 
 pub use answer_lines::fault_word;
-pub use program::{Checks, answer, run};
+pub use program::{Checks, ShownNodes, answer, ask, came_fine, run};
 pub use rule_tables::{
     Builder, Candidate, Candidates, Goal, Outcome, ReadFault, Rules, TableDelegate, delegate, rules,
 };

@@ -8,11 +8,12 @@ mod questions;
 mod shown;
 
 use line_texts::{Flush, read_input};
-pub use questions::Checks;
 use questions::answer_questions;
+pub use questions::{Checks, ask, came_fine};
 use rule_tables::delegate::Table;
 use rule_tables::{Goal, Outcome, Rules, Stop, TableDelegate, status_told};
 use search_parts::context::{Cx, Delegate};
+pub use shown::ShownNodes;
 use std::alloc::Global;
 use std::io::{Read, Write};
 

@@ -81,8 +81,8 @@ where
     Ok(all_fine)
 }
 
-// Whether no fault was met, and no graph refused.
-fn came_fine(came: Result<Told, Fault<Goal, Outcome>>) -> bool
+/// Whether no fault was met, and no graph refused.
+pub fn came_fine(came: Result<Told, Fault<Goal, Outcome>>) -> bool
     ensures { result ≡ is_fine came }
 {
     match came {
@@ -113,9 +113,10 @@ fn tell<W: Write>(
     Ok(())
 }
 
-/// Asks the goal at this depth, and checks the graph of a definite answer if that is wanted. The search graph may be any: it
-/// is as good as a new one, and has the memory of its last call.
-fn ask<X, D>(
+/// Asks the goal at this depth, and checks the graph of a definite answer if that is wanted, unless `shown` has it. The search
+/// graph may be any: it is as good as a new one, and has the memory of its last call. A fault leaves the cache and what was
+/// shown as they were, but for what was found out on the way; where there is no memory for the check, that is a fault, too.
+pub fn ask<X, D>(
     alloc: Global,
     graph: &mut SearchGraph<D>,
     cache: &mut GlobalCache<D>,

@@ -1,9 +1,10 @@
 //! Answers that are shown by their graphs, which are handed out and checked.
-ghost use Rattle.std.specs.Prelude.{◌≡◌, [], IsTrue, IfOk, Some};
-ghost use Rattle.table_runs.specs.Below.{IsDefinite, HasGraph, verdicts};
+ghost use Rattle.std.specs.Prelude.{◌≡◌, [], IsTrue, IfOk, Some, filter, not};
+ghost use Rattle.table_runs.specs.Below.{is_among, IsDefinite, HasGraph, KeepsRule, verdicts};
 ghost use Rattle.table_runs.specs.Right.{AreShown, SomeGraphShows};
 
 use delegate_parts::{Builder, Outcome};
+use determined::law::graphs_stay;
 use graph_check::check_graph;
 use rule_tables::Goal;
 use search_parts::context::{Cx, Delegate, NoMemory, NodeId};
@@ -13,9 +14,9 @@ use std::collections::HashSet;
 use std::marker::Model;
 
 /// The goals and outcomes that were shown, each by the graph of this node. A finished node never changes, so none has
-/// to be shown again.
+/// to be shown again, unless the rules change.
 #[derive(Drop)]
-pub(crate) struct ShownNodes {
+pub struct ShownNodes {
     shown: HashSet<(Goal, Outcome, NodeId)>,
 }
 
@@ -29,7 +30,8 @@ impl Model for ShownNodes {
 }
 
 impl ShownNodes {
-    pub(crate) fn new(alloc: Global) -> ShownNodes
+    /// Nothing was shown. It takes no memory yet.
+    pub fn new(alloc: Global) -> ShownNodes
         ensures { result ≡ [] }
     {
         ShownNodes {
@@ -70,6 +72,35 @@ impl ShownNodes {
         self.shown.insert(key)?;
         Ok(true)
     }
+
+    /// Forgets what was shown of goals that are gone. It takes no memory. Where rules change, a goal is gone if its rules are
+    /// other ones than they were, or ask a goal that is gone: what was shown of all others is shown by the rules after.
+    pub fn forget<X: Cx<Input = Goal, Result = Outcome>>(&mut self, gone: &HashSet<Goal>)
+        ensures left { self.new ≡ filter (λ shown.
+            not (is_among ⟦<Goal as PartialEq>⟧.eq gone.now.keys shown.0)) self.old }
+        ensures stay { (before after : X) →
+            KeepsRule (is_among ⟦<Goal as PartialEq>⟧.eq gone.now.keys) (X.proves before) (X.proves after) →
+            KeepsRule (is_among ⟦<Goal as PartialEq>⟧.eq gone.now.keys) (X.refutes before) (X.refutes after) →
+            AreShown X.Cx before self.old → AreShown X.Cx after self.new }
+    {
+        graphs_stay::<X>();
+        forget_keys(&mut self.shown, gone);
+    }
+}
+
+// Forgets what was shown of goals that are gone.
+fn forget_keys(shown: &mut HashSet<(Goal, Outcome, NodeId)>, gone: &HashSet<Goal>)
+    ensures { shown.new.keys ≡ filter (λ key.
+        not (is_among ⟦<Goal as PartialEq>⟧.eq gone.now.keys key.0)) shown.old.keys }
+{
+    shown.retain(|key| !is_gone(key, gone));
+}
+
+// Whether the goal that was shown is gone.
+fn is_gone(key: &(Goal, Outcome, NodeId), gone: &HashSet<Goal>) -> bool
+    ensures { result ≡ is_among ⟦<Goal as PartialEq>⟧.eq gone.now.keys key.now.0 }
+{
+    gone.contains(&key.0)
 }
 
 /// Whether a graph of the node is handed out, and the checker accepts it for the goal and the outcome.

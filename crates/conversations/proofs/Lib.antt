@@ -1,0 +1,4 @@
+pub mod Staying
+pub mod Taking
+pub mod Turning
+pub mod Statuses

@@ -1,0 +1,4 @@
+pub mod Answer
+pub mod Conversation
+pub mod Known
+pub mod Below
