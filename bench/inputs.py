@@ -194,6 +194,14 @@ def many_rules(goals):
     yield ask(99, goal(0))
 
 
+def forest(trees):
+    """Trees of 150 goals, each of which holds where both below it do. What is asked are the roots."""
+    for tree in range(trees):
+        for at in range(150):
+            yield rule(f"t{tree}_{at}", [("i", f"t{tree}_{below}") for below in (2 * at + 1, 2 * at + 2) if below < 150])
+    yield from (ask(150, f"t{tree}_0") for tree in range(trees))
+
+
 def names_of(is_far):
     """The inputs that are far, or those of the tables."""
     return [name for name, given in INPUTS.items() if given.is_far == is_far]
