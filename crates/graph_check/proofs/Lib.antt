@@ -1,4 +1,6 @@
 pub mod Elements
+pub mod Joined
+pub mod PartGraphs
 pub mod CountedQuestions
 pub mod RunRecords
 pub mod Replaying

@@ -1,3 +1,4 @@
+pub mod Parts
 pub mod Replay
 pub mod Runs
 pub mod Walks

@@ -6,6 +6,7 @@
 //!
 //! | File of `specs/` | Has |
 //! |---|---|
+//! | `Parts` | graphs of which some nodes are known to be shown |
 //! | `Replay` | how far a run has come that is replayed |
 //! | `Runs` | the runs of the nodes |
 //! | `Walks` | closed walks over some kinds of edges |
@@ -16,10 +17,12 @@ ghost use Rattle.graph_check.specs.Below.{IsProofGraph, IsRefutationGraph, IsVal
 ghost use Rattle.graph_check.specs.Words.{has_sort, AreRunsOfSort};
 
 mod cycles;
+mod parts;
 mod replay;
 mod targets;
 
 use cycles::cycles_have_kind;
+pub use parts::check_part;
 use path_kinds::path::PathKind;
 use replay::is_run;
 use search_context::context::{Cx, Delegate, NoMemory, Node, ProofGraph, Verdict};
