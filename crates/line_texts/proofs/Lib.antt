@@ -4,3 +4,4 @@ pub mod LinkLemmas
 pub mod Bytes
 pub mod Written
 pub mod Questions
+pub mod Lines

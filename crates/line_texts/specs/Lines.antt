@@ -1,5 +1,6 @@
 -- The lines of a text, their words, and names.
-use Rattle.std.specs.Prelude.{◌==◌, ℕ, ◌<◌, ◌≤◌, nat_lt, Bool, ◌||◌, List, filter, length}
+use Rattle.std.specs.Prelude.{◌≡◌, ◌==◌, ℕ, ◌+◌, ◌<◌, ◌≤◌, nat_lt, All, Bool, ◌||◌, List, filter, length}
+use Rattle.std.specs.Prelude.{slice_get, Some, take}
 use Rattle.std.specs.Char.{is_ascii_alphanumeric}
 use Rattle.std.specs.List.{slice_split, AllPass}
 
@@ -20,3 +21,13 @@ pub record IsName (word : List ℕ) : Type 0 where
   pub is_some : 0 < length word
   pub is_short : length word ≤ 16
   pub bytes : AllPass is_name_byte word
+
+-- the grammar allows each line before this one, and not this one; lines are counted from 1
+pub record IsFirstBadLine {S : Type 0} (Says : List ℕ → S → Type 0) (IsMalformed : List ℕ → Type 0)
+    (text : List ℕ) (number : ℕ) : Type 0 where
+  pub before : ℕ
+  pub count : number ≡ before + 1
+  pub line : List ℕ
+  pub is_line : slice_get (lines_of text) before ≡ Some line
+  pub is_malformed : IsMalformed line
+  pub allowed : All (λ earlier. (s : S) × Says earlier s) (take before (lines_of text))

@@ -79,11 +79,17 @@ impl Names {
         ensures names { OnOk result (self.new ≡ with_name self.old name.now) }
         ensures err { OnErr result (self.new ≡ self.old) }
     {
-        if let Some(number) = self.number(name) {
+        let name = Name::new(name);
+        let known = find(
+            self.names.as_slice(),
+            self.heads,
+            self.links.as_slice(),
+            &name,
+        );
+        if let Some(number) = known {
             return Ok(number);
         }
         let number = self.names.len();
-        let name = Name::new(name);
         self.names.reserve(1)?;
         if number == self.heads {
             let heads = number.saturating_mul(2).max(8);

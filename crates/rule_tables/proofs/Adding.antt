@@ -15,7 +15,7 @@ use Rattle.rule_tables.specs.Words.{Goal, Asking, Candidate, Draft, DraftRule, i
 use Rattle.rule_tables.specs.Words.{Statement, Nothing, Rule, Ask, number_of, names_in, first_mentions, candidate_in}
 use Rattle.rule_tables.specs.Words.{question_in, IsCandidate, IsToBeAnswered, IsDraftOf, Adds, Mentions}
 use Rattle.line_texts.proofs.NameLemmas.{some_same}
-use Rattle.rule_tables.proofs.Questions.{AllZip-append_one}
+use Rattle.line_texts.proofs.Lines.{AllZip-append_one}
 use Rattle.rule_tables.proofs.TableLemmas.{IsGrown, grown, mentions_none}
 
 table_with : (ss : List Statement) (s : Statement) (mid new : Draft) →

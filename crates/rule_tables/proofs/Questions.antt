@@ -2,6 +2,7 @@
 use Rattle.std.proofs.Common.{◌≡◌, ℕ, List, [], ◌∷◌, ◌++◌, ◌∙◌, ap, sym, subst, append_assoc, map}
 use Rattle.std.specs.List.{AllZip}
 use Rattle.std.proofs.lemmas.List.{map-append}
+pub use Rattle.line_texts.proofs.Lines.{AllZip-append_one}
 use Rattle.rule_tables.specs.declared.reading.question.Question.{Question}
 use Rattle.rule_tables.specs.Words.{NamedQuestion, IsQuestion, named}
 
@@ -12,13 +13,6 @@ pub record AreReadTo (words left : List (List ℕ)) (questions : List NamedQuest
   pub are_questions : AllZip IsQuestion read questions
 
 module _ {A B : Type 0} (R : A → B → Type 0) where
-  pub AllZip-append_one : (xs : List A) (ys : List B) (x : A) (y : B) → AllZip R xs ys → R x y
-      → AllZip R (xs ++ x ∷ []) (ys ++ y ∷ [])
-  AllZip-append_one [] [] x y h r = (r, tt)
-  AllZip-append_one [] (z ∷ ys) x y h r = absurd h
-  AllZip-append_one (w ∷ xs) [] x y h r = absurd h
-  AllZip-append_one (w ∷ xs) (z ∷ ys) x y h r = (h.0, AllZip-append_one xs ys x y h.1 r)
-
   AllZip-inside : (xs : List A) (x : A) (rest : List A) (ys : List B) → AllZip R (xs ++ x ∷ rest) ys → (y : B) × R x y
   AllZip-inside [] x rest [] h = absurd h
   AllZip-inside [] x rest (y ∷ ys) h = (y, h.0)

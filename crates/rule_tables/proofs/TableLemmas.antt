@@ -20,7 +20,7 @@ use Rattle.rule_tables.specs.Words.{Goal, Asking, Candidate, Row, Draft, DraftRu
 use Rattle.rule_tables.specs.Words.{rules_of, HasAsked, NamedQuestion, Statement, Nothing, Rule, Ask, with_name, named}
 use Rattle.rule_tables.specs.Words.{number_of, names_in, first_mentions, NamedCandidate, candidate_in, question_in}
 use Rattle.rule_tables.specs.Words.{IsAsked, AreAsked, IsCandidate, IsToBeAnswered, IsDraftOf, Mentions}
-use Rattle.rule_tables.proofs.Questions.{AllZip-append_one}
+use Rattle.line_texts.proofs.Lines.{AllZip-append_one}
 use Rattle.line_texts.proofs.NameLemmas.{is_among, has_place, some_same, place_in_longer, slice_get-append_left, at_end}
 
 -- no name is lost, and one more is there at most

@@ -4,7 +4,7 @@ pub use Rattle.rule_tables.specs.Grammar.{Ask, IsDepth, IsMalformed, IsQuestion,
 pub use Rattle.rule_tables.specs.Grammar.{Nothing, Rule, Say, Says, Statement}
 pub use Rattle.line_texts.specs.Lines.{lines_of}
 pub use Rattle.line_texts.specs.LineWords.{words_left}
-pub use Rattle.rule_tables.specs.Line.{statement_of}
+pub use Rattle.rule_tables.specs.Line.{statement_of, statement_with}
 pub use Rattle.line_texts.specs.Names.{with_name}
 pub use Rattle.rule_tables.specs.Question.{named}
 pub use Rattle.rule_tables.specs.Rules.{candidates_of, name_of, names_of, number_of, questions_of}

@@ -5,7 +5,7 @@
 //! |---|---|
 //! | `Grammar`, `Text` | the grammar of lines and of whole texts |
 //! | `Question`, `Line` | questions and lines as the reading has them |
-//! | `Stop` | why a program over a table ends early, and its exit status |
+//! | `Stop` | what a fault of reading a table stops |
 //! | `Table`, `Rules` | the table that a text makes, and what it says of goals |
 //! | `Candidate`, `Starts` | candidates, and how a table keeps them |
 //! | `Draft`, `DraftRule` | a table that is being read |
@@ -27,4 +27,4 @@ pub use reading::ReadFault;
 pub use reading::line::{Line, LineFault, line_of};
 pub use reading::question::Question;
 pub use rules::{Goal, Rules};
-pub use stop::{Stop, status_told};
+pub use stop::BadLine;

@@ -8,8 +8,10 @@ pub(super) mod question;
 
 use crate::draft::Draft;
 use crate::rules::Rules;
-use line::{Line, LineFault, line_of};
+use line::{FEW, LineFault, Said, said_by};
+use question::Question;
 use search_context::context::NoMemory;
+use smallvec::SmallVec;
 use std::alloc::Global;
 use thiserror::Error;
 
@@ -45,8 +47,9 @@ impl Rules {
         let Ok(mut draft) = Draft::new(alloc) else {
             return Err(ReadFault::Memory);
         };
+        let mut questions = SmallVec::new(alloc);
         for (before, line) in text.split(|byte| *byte == b'\n').enumerate() {
-            match read_line(alloc, line, &mut draft) {
+            match read_line(line, &mut questions, &mut draft) {
                 Ok(()) => {}
                 Err(LineFault::Malformed) => return Err(ReadFault::BadLine(before + 1)),
                 Err(LineFault::Memory) => return Err(ReadFault::Memory),
@@ -59,18 +62,19 @@ impl Rules {
     }
 }
 
-fn read_line(alloc: Global, line: &[u8], draft: &mut Draft) -> Result<(), LineFault>
+// The list has room for the questions of a line.
+fn read_line<'a>(
+    line: &'a [u8],
+    questions: &mut SmallVec<Question<'a>, FEW>,
+    draft: &mut Draft,
+) -> Result<(), LineFault>
     ensures ok { OnOk result ((s : Statement) × Says line.now s × Adds s draft.old draft.new) }
     ensures malformed { result ≡ Err LineFault.Malformed → IsMalformed line.now }
 {
-    match line_of(alloc, line)? {
-        Line::PassedOver => {}
-        Line::Rule {
-            is_marked,
-            name,
-            questions,
-        } => draft.add_rule(is_marked, name, questions.as_slice())?,
-        Line::Ask { depth, name } => draft.add_question(depth, name)?,
+    match said_by(line, questions)? {
+        Said::PassedOver => {}
+        Said::Rule { is_marked, name } => draft.add_rule(is_marked, name, questions.as_slice())?,
+        Said::Ask { depth, name } => draft.add_question(depth, name)?,
     }
     Ok(())
 }

@@ -2,7 +2,7 @@
 ghost use Rattle.std.specs.Prelude.{◌≡◌, ◌&&◌, nat_le, true, false, length, List, IfErr, IfOk};
 ghost use Rattle.trait_answers.specs.Answered.{CanBeTold, IsImplemented, IsNotImplemented, IsTold};
 ghost use Rattle.trait_answers.specs.Asking.{known_by, was_wanted};
-ghost use Rattle.trait_answers.specs.Below.{IsCaused, IsProved, IsRefuted, Memory, No, TwoRunsAreEnough, Yes};
+ghost use Rattle.trait_answers.specs.Below.{AreRight, IsCaused, IsProved, IsRefuted, Memory, No, TwoRunsAreEnough, Yes};
 ghost use Rattle.trait_answers.specs.Deciding.{EndsDecided, EndsTold, KeepsDeciding};
 
 use crate::answers::{Answered, Answers};
@@ -48,6 +48,20 @@ fn evaluated<D: Delegate>(
     graph.evaluate_goal(cache, goal, PathKind::Inductive, inspect)
 }
 
+// How many goals are lent.
+fn count_of<L: Lends<Goals>>(cache: &GlobalCache<GoalsDelegate<L>>) -> usize
+    ensures { result ≡ length (L.lent_by cache.now.cx.0.0.lender).asked }
+{
+    cache.cx().0.0.lender.lent().len()
+}
+
+// What is lent is right of all goals, which a goal that is asked tells.
+fn goals_are_right<L: Lends<Goals>>(cache: &GlobalCache<GoalsDelegate<L>>, goal: usize)
+    ensures { AreRight (L.lent_by cache.now.cx.0.0.lender) }
+{
+    let _asked = cache.cx().0.0.lender.lent().asked(goal);
+}
+
 // Asks a goal at a depth.
 fn asked<L: Lends<Goals>>(
     cache: &mut GlobalCache<GoalsDelegate<L>>,
@@ -64,8 +78,7 @@ fn asked<L: Lends<Goals>>(
         EndsTold ⟦<usize as PartialEq>⟧.eq (L.lent_by cache.old.cx.0.0.lender) result cache.new }
     ensures same_context { cache.new.cx ≡ cache.old.cx }
 {
-    // This is asked for what it ensures of all goals alone.
-    let _asked = cache.cx().0.0.lender.lent().asked(goal);
+    goals_are_right(cache, goal);
     graph.renew(depth);
     let mut builder = Builder::new(true);
     match evaluated(cache, graph, goal, &mut builder) {
@@ -124,7 +137,7 @@ impl<L: Lends<Goals>> Answers<L> {
             && nat_le (length (known_by L.lent_by self.old).asked) depth) }
         ensures same_goals { known_by L.lent_by self.new ≡ known_by L.lent_by self.old }
     {
-        let count = self.cache.cx().0.0.lender.lent().len();
+        let count = count_of(&self.cache);
         self.had_depth = has_depth(self.had_depth, count, depth);
         if goal >= count {
             return Ok(Answered {

@@ -7,9 +7,10 @@ ghost use Rattle.trees.specs.Program.{IsAllShown, IsBrokenOff};
 mod shown;
 
 use line_texts::{Flush, read_input};
+use program_ends::{Stop, status_told};
 use proof_trees::Recording;
 use rule_tables::delegate::Table;
-use rule_tables::{Goal, Outcome, Rules, Stop, TableDelegate, status_told};
+use rule_tables::{BadLine, Goal, Outcome, Rules, TableDelegate};
 use search_parts::context::{Cx, Delegate};
 use shown::show_questions;
 use std::alloc::Global;
@@ -55,14 +56,18 @@ pub(crate) fn run<R: Read + Drop, W: Flush, E: Write + Drop>(
 }
 
 // Whether each question was answered without a fault.
-fn show_input<R: Read, W: Flush>(alloc: Global, input: &mut R, out: &mut W) -> Result<bool, Stop>
+fn show_input<R: Read, W: Flush>(
+    alloc: Global,
+    input: &mut R,
+    out: &mut W,
+) -> Result<bool, Stop<BadLine>>
     ensures told { IfOk result (IsAllShown ⟦<Recording<TableDelegate<'static, 8, 1>> as Delegate>⟧
         ⟦<Table<&'static Rules> as Cx>⟧ ⟦<Goal as PartialEq>⟧.eq ⟦<Outcome as PartialEq>⟧.eq
         (R.remaining input.old) (W.contents out.old) (W.contents out.new)) }
     ensures flushed { OnOk result (W.is_flushed out.new) }
-    ensures bad_line { (n : ℕ) → result ≡ Err (Stop.BadLine n) →
+    ensures bad_line { (n : ℕ) → result ≡ Err (Stop.Text (record { number = n })) →
         IfSome (R.remaining input.old) (λ text. IsFirstBadLine text n) }
-    ensures nothing_written { (n : ℕ) → result ≡ Err (Stop.BadLine n) →
+    ensures nothing_written { (n : ℕ) → result ≡ Err (Stop.Text (record { number = n })) →
         Keeps (W.contents out.old) (W.contents out.new) }
     ensures beginning { OnErr result (IsBrokenOff
         ⟦<Recording<TableDelegate<'static, 8, 1>> as Delegate>⟧

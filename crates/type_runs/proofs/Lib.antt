@@ -1,4 +1,3 @@
 pub mod Telling
 pub mod Refused
 pub mod Searching
-pub mod Stops

@@ -1,9 +1,8 @@
 -- Why a text was refused.
 use Rattle.std.proofs.Common.{◌≡◌, ℕ, List, Option, Some, None, arith, refl}
 use Rattle.std.specs.Prelude.{IfSome}
-use Rattle.type_runs.specs.Program.{IsRefused, Malformed, Twice, Undeclared, Unguarded}
-use Rattle.type_runs.specs.Stop.{status_of}
-use Rattle.type_runs.specs.declared.program.stop.Stop.{Stop}
+use Rattle.program_ends.specs.Stop.{status_of}
+use Rattle.type_runs.specs.Program.{IsRefused, Malformed, stopped_text, Twice, Undeclared, Unguarded}
 use Rattle.type_texts.specs.declared.reading.ReadFault.{ReadFault}
 use Rattle.type_texts.specs.declared.reading.ReadFault.TheVariants as read
 use Rattle.type_texts.specs.Text.{IsDeclaredTwice, IsFirstBadLine, IsUndeclared, IsUnguarded}
@@ -12,7 +11,7 @@ use Rattle.type_texts.specs.Text.{IsDeclaredTwice, IsFirstBadLine, IsUndeclared,
 pub refused_text : (text : List ℕ) (fault : ReadFault) → ((n : ℕ) → fault ≡ read.BadLine n → IsFirstBadLine text n) →
     ((n : ℕ) → fault ≡ read.Twice n → IsDeclaredTwice text n) →
     ((n : ℕ) → fault ≡ read.Undeclared n → IsUndeclared text n) →
-    ((n : ℕ) → fault ≡ read.Unguarded n → IsUnguarded text n) → status_of (Stop.Text fault) ≡ 2 → IsRefused text
+    ((n : ℕ) → fault ≡ read.Unguarded n → IsUnguarded text n) → status_of (stopped_text fault) ≡ 2 → IsRefused text
 refused_text text (read.BadLine n) bad twice undeclared unguarded e = Malformed n (bad n refl)
 refused_text text (read.Twice n) bad twice undeclared unguarded e = Twice n (twice n refl)
 refused_text text (read.Undeclared n) bad twice undeclared unguarded e = Undeclared n (undeclared n refl)

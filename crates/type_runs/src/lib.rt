@@ -5,7 +5,7 @@
 //! |---|---|
 //! | `Answers` | what the answers of a text's questions are |
 //! | `Search` | what the search for a reason has found |
-//! | `Stop`, `Program` | why the program ends early, and what a run of it came to |
+//! | `Program` | what a run of the program came to |
 #![tactic(auto)]
 
 mod program;

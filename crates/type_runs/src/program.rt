@@ -1,20 +1,19 @@
 //! What the program does: it reads a table of types, and answers its questions in order.
 ghost use Rattle.std.specs.Prelude.{◌≡◌, ◌≤◌, ◌<◌, ◌==◌, IfErr, IfOk, IfSome, OnErr, OnOk};
 ghost use Rattle.std.specs.Io.KnownBytes.{Keeps};
-ghost use Rattle.type_runs.specs.Program.{IsAllTold, IsBrokenOff, IsRefused};
-ghost use Rattle.type_runs.specs.Stop.{status_of};
+ghost use Rattle.type_runs.specs.Program.{IsAllTold, IsBrokenOff, IsRefused, stopped_text};
+ghost use Rattle.program_ends.specs.Stop.{status_of};
 
 mod questions;
 mod reason;
-mod stop;
 
 use line_texts::{Flush, read_input};
+use program_ends::{Stop, status_told};
 use questions::answer_questions;
 use std::alloc::Global;
 use std::io::{Read, Write};
-use stop::{Stop, status_told};
 use type_order::Types;
-use type_texts::TypeTable;
+use type_texts::{ReadFault, TypeTable};
 
 /// Reads types and questions and answers each question in order, on a line of its own: `NAME < NAME yes`, or `no` with
 /// the way to the reason, as `List < Stream no at tail.head: Text is not below Int`. A fault is told as
@@ -51,7 +50,11 @@ pub fn run<R: Read + Drop, W: Flush, E: Write + Drop>(
 }
 
 // Whether each question was answered without a fault.
-fn answer_input<R: Read, W: Flush>(alloc: Global, input: &mut R, out: &mut W) -> Result<bool, Stop>
+fn answer_input<R: Read, W: Flush>(
+    alloc: Global,
+    input: &mut R,
+    out: &mut W,
+) -> Result<bool, Stop<ReadFault>>
     ensures told { IfOk result
         (IsAllTold (R.remaining input.old) (W.contents out.old) (W.contents out.new)) }
     ensures flushed { OnOk result (W.is_flushed out.new) }
@@ -65,6 +68,19 @@ fn answer_input<R: Read, W: Flush>(alloc: Global, input: &mut R, out: &mut W) ->
     let text = read_input(alloc, input)?;
     match TypeTable::read(alloc, text.as_slice()) {
         Ok(table) => answer_questions::<&Types, W>(alloc, table.types(), &table, out),
-        Err(fault) => Err(Stop::Text(fault)),
+        Err(fault) => Err(stop_of(fault)),
+    }
+}
+
+// What a fault of the reading stops.
+fn stop_of(fault: ReadFault) -> Stop<ReadFault>
+    ensures { result ≡ stopped_text fault }
+{
+    match fault {
+        ReadFault::Memory => Stop::Memory,
+        ReadFault::BadLine(_)
+        | ReadFault::Twice(_)
+        | ReadFault::Undeclared(_)
+        | ReadFault::Unguarded(_) => Stop::Text(fault),
     }
 }

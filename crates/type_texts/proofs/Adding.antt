@@ -14,7 +14,8 @@ use Rattle.type_texts.specs.Grammar.{Base, Bottom, Function, Meaning, NamedField
 use Rattle.type_texts.specs.Table.{meaning_in, question_in}
 use Rattle.type_texts.specs.Words.{Adds, forms_in, GrowsLabels, HasUndeclared, IsAsked, IsForm, IsNumberOf, IsSameField}
 use Rattle.type_texts.specs.Words.{labels_of, named, names_of, questions_of, Statement}
-use Rattle.type_texts.proofs.Lists.{AllZip-append, AllZip-append_one, AllZip-weaker, contains_later, map_take_next}
+use Rattle.line_texts.proofs.Lines.{AllZip-append_one}
+use Rattle.type_texts.proofs.Lists.{AllZip-append, AllZip-weaker, contains_later, map_take_next}
 
 module _ (names old new : List (List ℕ))
     (kept : (n : ℕ) (x : List ℕ) → slice_get old n ≡ Some x → slice_get new n ≡ Some x) where

@@ -33,14 +33,6 @@ module _ (f : ℕ → ℕ) (n : ℕ) where
     | inr w ↦ any_none xs (subst (λ b. (b || list_any (λ z. f z == n) xs) ≡ false) w.0 e) x (k, omega arith, later) same
   ]
 
-module _ {A B : Type 0} (R : A → B → Type 0) where
-  pub AllZip-append_one : (xs : List A) (ys : List B) (x : A) (y : B) → AllZip R xs ys → R x y
-      → AllZip R (xs ++ x ∷ []) (ys ++ y ∷ [])
-  AllZip-append_one [] [] x y h r = (r, tt)
-  AllZip-append_one [] (z ∷ ys) x y h r = absurd h
-  AllZip-append_one (w ∷ xs) [] x y h r = absurd h
-  AllZip-append_one (w ∷ xs) (z ∷ ys) x y h r = (h.0, AllZip-append_one xs ys x y h.1 r)
-
 -- what holds of each place holds by something weaker, too
 pub AllZip-weaker : {A B : Type 0} (R S : A → B → Type 0) → ((x : A) (y : B) → R x y → S x y)
     → (xs : List A) (ys : List B) → AllZip R xs ys → AllZip S xs ys

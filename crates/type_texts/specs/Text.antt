@@ -1,9 +1,10 @@
 -- What a whole text says.
-use Rattle.std.specs.Prelude.{◌≡◌, ℕ, ◌+◌, List, take, All, Some, length, slice_get}
+use Rattle.std.specs.Prelude.{◌≡◌, ℕ, ◌+◌, List, take, Some, length, slice_get}
 use Rattle.std.specs.List.{AllZip, filter_map}
 use Rattle.type_order.specs.Order.{AreDeclared, IsContractive}
 use Rattle.type_texts.specs.declared.table.TypeTable.{TypeTable}
 use Rattle.type_texts.specs.Grammar.{AreDistinct, IsMalformed, Says, Statement}
+use Rattle.line_texts.specs.Lines as Lines
 use Rattle.line_texts.specs.Lines.{lines_of}
 use Rattle.type_texts.specs.Guard.{IsUnionOfItself}
 use Rattle.type_texts.specs.Table.{forms_in, HasUndeclared, IsTableOf, name_in, named_in, names_of}
@@ -24,13 +25,8 @@ pub record Reads (text : List ℕ) (types : TypeTable) : Type 0 where
   pub contractive : IsContractive (forms_in types)
 
 -- the grammar allows each line before this one, and not this one; lines are counted from 1
-pub record IsFirstBadLine (text : List ℕ) (number : ℕ) : Type 0 where
-  pub before : ℕ
-  pub count : number ≡ before + 1
-  pub line : List ℕ
-  pub is_line : slice_get (lines_of text) before ≡ Some line
-  pub is_malformed : IsMalformed line
-  pub allowed : All (λ earlier. (s : Statement) × Says earlier s) (take before (lines_of text))
+abbrev pub IsFirstBadLine : List ℕ → ℕ → Type 0
+IsFirstBadLine = Lines.IsFirstBadLine Says IsMalformed
 
 -- the line declares a name that an earlier one declares, too
 pub record DeclaresAgain (statements : List Statement) (number : ℕ) : Type 0 where

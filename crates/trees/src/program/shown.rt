@@ -5,8 +5,9 @@ ghost use Rattle.trees.specs.Shown.{AreAllShown, AreFirstShown, IsTreeShown, See
 use answer_lines::trees::write_answer;
 use delegate_parts::{Builder, Outcome};
 use line_texts::{Flush, write_bytes};
+use program_ends::Stop;
 use proof_trees::{Recorder, Words, write_entries};
-use rule_tables::{Goal, Rules, Stop};
+use rule_tables::{BadLine, Goal, Rules};
 use search_graph::graph::SearchGraph;
 use search_parts::context::{Answer, Cx, Delegate, Fault};
 use search_parts::global_cache::GlobalCache;
@@ -22,7 +23,7 @@ pub(super) fn show_questions<X, D, W>(
     cx: X,
     rules: &Rules,
     out: &mut W,
-) -> Result<bool, Stop>
+) -> Result<bool, Stop<BadLine>>
 where
     X: Cx<Input = Goal, Result = Outcome>,
     D: Delegate<Cx = X, ProofTreeBuilder = Recorder<Builder, Goal, Outcome>>,
@@ -63,7 +64,7 @@ fn show<X, D>(
     depth: usize,
     goal: Goal,
     text: &mut Vec<u8>,
-) -> Result<bool, Stop>
+) -> Result<bool, Stop<BadLine>>
 where
     X: Cx<Input = Goal, Result = Outcome>,
     D: Delegate<Cx = X, ProofTreeBuilder = Recorder<Builder, Goal, Outcome>>,

@@ -9,16 +9,16 @@ ghost use Rattle.type_texts.specs.Reasons.{name_of};
 ghost use Rattle.type_texts.specs.Table.{forms_in};
 
 use crate::program::reason::reason_of;
-use crate::program::stop::Stop;
 use answer_lines::types::{Told, write_line};
 use delegate_parts::{Lends, Outcome};
 use line_texts::{Flush, write_bytes};
+use program_ends::Stop;
 use search_parts::context::Fault;
 use std::alloc::Global;
 use std::io::Write;
 use structural_types::Subtyping;
 use type_order::{Pair, Types};
-use type_texts::TypeTable;
+use type_texts::{ReadFault, TypeTable};
 
 /// A write of its own for each line would take longer than a question that the cache answers, so this many bytes
 /// wait for each other.
@@ -33,7 +33,7 @@ pub(super) fn answer_questions<T: Lends<Types>, W: Flush>(
     types: T,
     table: &TypeTable,
     out: &mut W,
-) -> Result<bool, Stop>
+) -> Result<bool, Stop<ReadFault>>
     requires same_types { forms_of (T.lent_by types) ≡ forms_in table.now }
 
     // All questions were asked in order, and their lines written.
@@ -92,7 +92,7 @@ fn tell<W: Write>(
     table: &TypeTable,
     pair: Pair,
     came: Result<Told, Fault<Pair, Outcome>>,
-) -> Result<(), Stop>
+) -> Result<(), Stop<ReadFault>>
     ensures passed { OnOk result (Passes (W.contents out.old) (W.contents out.new)
         (waiting.old.items ++ line_told (name_of table.now pair.left) (name_of table.now pair.right) came)
         waiting.new.items) }

@@ -1,6 +1,6 @@
-use Rattle.std.proofs.Common.{◌≡◌, false, ap, refl, rules, subst, sym, arith}
-use Rattle.trait_answers.specs.Answered.{CanBeTold, IsImplemented, IsNotImplemented}
-use Rattle.trait_answers.specs.Below.{AreRight, graph_nodes_of, is_no, is_yes}
+use Rattle.std.proofs.Common.{ap, refl, subst, sym, arith}
+use Rattle.trait_answers.specs.Answered.{CanBeTold}
+use Rattle.trait_answers.specs.Below.{graph_nodes_of, is_no, is_yes}
 use Rattle.trait_answers.specs.Deciding.{goals_of}
 use Rattle.trait_answers.proofs.Enough.{ends_told, enough, fault_told}
 use Rattle.trait_answers.proofs.Shown.{implemented_at_node, not_implemented_at_node}
@@ -8,41 +8,24 @@ use Rattle.trait_answers.proofs.ask.asked.Goals as goal
 
 pub returns-in-Ok-clause-yes : goal.returns-in-Ok-clause-yes
 returns-in-Ok-clause-yes g c = λ e.
-    let table = g.L.Lends.lent_by in
-    let cache = c.evaluated.new.cache in
-    let shown = c.in-Ok.ensures.yes (ap is_yes e) in
-    let told : c.lent.result.now ≡ table c.args.cache.now.cx.0.0.lender =
-    let lent = c.lent.ensures in let cx = c.cx.ensures in search rules in
-    let right = subst AreRight told c.asked-asked.ensures.right in
-    let same = c.evaluated.ensures.same_context in
-    subst (λ cx. IsImplemented (table cx.0.0.lender) c.args.goal) same
-    (implemented_at_node (table cache.cx.0.0.lender) (subst (λ cx. AreRight (table cx.0.0.lender)) (sym same) right)
-    (graph_nodes_of cache.nodes) c.args.goal _ shown.graph)
+    implemented_at_node _ _ (ap (λ cx. g.L.Lends.lent_by cx.0.0.lender) c.evaluated.ensures.same_context)
+    c.goals_are_right.ensures (graph_nodes_of c.evaluated.new.cache.nodes) c.args.goal _
+    (c.in-Ok.ensures.yes (ap is_yes e)).graph
 
 pub returns-in-Ok-clause-no : goal.returns-in-Ok-clause-no
 returns-in-Ok-clause-no g c = λ e.
-    let table = g.L.Lends.lent_by in
-    let cache = c.evaluated.new.cache in
-    let shown = c.in-Ok.ensures.no (ap is_no e) in
-    let told : c.lent.result.now ≡ table c.args.cache.now.cx.0.0.lender =
-    let lent = c.lent.ensures in let cx = c.cx.ensures in search rules in
-    let right = subst AreRight told c.asked-asked.ensures.right in
-    let same = c.evaluated.ensures.same_context in
-    subst (λ cx. IsNotImplemented (table cx.0.0.lender) c.args.goal) same
-    (not_implemented_at_node (table cache.cx.0.0.lender) (subst (λ cx. AreRight (table cx.0.0.lender)) (sym same) right)
-    (graph_nodes_of cache.nodes) c.args.goal _ shown.graph)
+    not_implemented_at_node _ _ (ap (λ cx. g.L.Lends.lent_by cx.0.0.lender) c.evaluated.ensures.same_context)
+    c.goals_are_right.ensures (graph_nodes_of c.evaluated.new.cache.nodes) c.args.goal _
+    (c.in-Ok.ensures.no (ap is_no e)).graph
 
 pub returns-in-Ok-clause-told : goal.returns-in-Ok-clause-told
 returns-in-Ok-clause-told g c = λ can ready.
     let old = c.args.cache.now in
     let table = g.L.Lends.lent_by old.cx.0.0.lender in
     let graph = c.renew.new.self in
-    let lent : c.lent.result.now ≡ table =
-    let lent = c.lent.ensures in let cx = c.cx.ensures in search rules in
-    let right = subst AreRight lent c.asked-asked.ensures.right in
     let deep = ap (λ graph. graph.root_depth) c.renew.ensures in
-    let runs = enough _ _ _ table old graph.root_depth c.args.goal _ right refl refl (omega arith) (λ _. refl)
-    c.new-builder.ensures.noop (subst (CanBeTold table c.args.goal) (sym deep) can) ready in
+    let runs = enough _ _ _ table old graph.root_depth c.args.goal _ c.goals_are_right.ensures refl refl
+    (omega arith) (λ _. refl) c.new-builder.ensures.noop (subst (CanBeTold table c.args.goal) (sym deep) can) ready in
     ends_told _ _ _ table old c.in-Ok.answer _ c.limits_met.result c.evaluated.new.cache c.limits_met.ensures refl refl
     refl
     (c.in-Ok.ensures.decided (goals_of table) runs (ap (λ graph. graph.limits_met) c.renew.ensures))
@@ -52,12 +35,9 @@ returns-in-Err-clause-told g c = λ can ready.
     let old = c.args.cache.now in
     let table = g.L.Lends.lent_by old.cx.0.0.lender in
     let graph = c.renew.new.self in
-    let lent : c.lent.result.now ≡ table =
-    let lent = c.lent.ensures in let cx = c.cx.ensures in search rules in
-    let right = subst AreRight lent c.asked-asked.ensures.right in
     let deep = ap (λ graph. graph.root_depth) c.renew.ensures in
-    let runs = enough _ _ _ table old graph.root_depth c.args.goal _ right refl refl (omega arith) (λ _. refl)
-    c.new-builder.ensures.noop (subst (CanBeTold table c.args.goal) (sym deep) can) ready in
+    let runs = enough _ _ _ table old graph.root_depth c.args.goal _ c.goals_are_right.ensures refl refl
+    (omega arith) (λ _. refl) c.new-builder.ensures.noop (subst (CanBeTold table c.args.goal) (sym deep) can) ready in
     fault_told _ _ _ table old c.in-Err.fault _ c.evaluated.new.cache c.evaluated.ensures.same_context refl refl refl
     (λ _. refl) c.in-Err.ensures.faults
     (c.in-Err.ensures.decided (goals_of table) runs (ap (λ graph. graph.limits_met) c.renew.ensures))

@@ -10,7 +10,7 @@ returns-clause-refused g c = λ status.
     let told = c.in-Err.ensures in
     let refused = refused_text c.as_slice.result.now c.in-Err.fault (λ n e. told.bad_line n (ap Err e))
     (λ n e. told.twice n (ap Err e)) (λ n e. told.undeclared n (ap Err e))
-    (λ n e. told.unguarded n (ap Err e)) status in
+    (λ n e. told.unguarded n (ap Err e)) (rw c.stop_of.ensures at status) in
     known_refused _ _ c.in_ok-text.ensures (subst IsRefused c.as_slice.ensures.value refused)
 
 pub returns-in-Ok-clause-told : goal.returns-in-Ok-clause-told

@@ -1,5 +1,6 @@
-use Rattle.type_runs.proofs.Stops.{done_by_status, refused_by_status, status_in_range, stopped_by_status}
-use Rattle.type_runs.proofs.Stops.{told_by_status}
+use Rattle.std.proofs.Common.{arith, refl}
+use Rattle.program_ends.proofs.Stops.{broken_by_status, done_by_status, fault_by_status, status_in_range}
+use Rattle.program_ends.proofs.Stops.{told_by_status}
 use Rattle.type_runs.proofs.program.run.Goals as goal
 
 pub returns-clause-status : goal.returns-clause-status
@@ -15,12 +16,15 @@ returns-clause-flushed g c =
 
 pub returns-clause-refused : goal.returns-clause-refused
 returns-clause-refused g c =
-    refused_by_status _ c.answer_input-came.result _ c.status_told.ensures c.answer_input-came.ensures.refused
+    fault_by_status _ c.answer_input-came.result _ c.status_told.ensures
+    (λ fault e. let h = rw e at c.answer_input-came.ensures.refused in h refl)
 
 pub returns-clause-nothing_written : goal.returns-clause-nothing_written
 returns-clause-nothing_written g c =
-    refused_by_status _ c.answer_input-came.result _ c.status_told.ensures c.answer_input-came.ensures.nothing_written
+    fault_by_status _ c.answer_input-came.result _ c.status_told.ensures
+    (λ fault e. let h = rw e at c.answer_input-came.ensures.nothing_written in h refl)
 
 pub returns-clause-beginning : goal.returns-clause-beginning
 returns-clause-beginning g c =
-    stopped_by_status _ c.answer_input-came.result _ c.status_told.ensures c.answer_input-came.ensures.beginning
+    λ high. broken_by_status _ c.answer_input-came.result _ c.status_told.ensures c.answer_input-came.ensures.beginning
+    (omega (arith, high))

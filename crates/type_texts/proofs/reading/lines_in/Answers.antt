@@ -5,8 +5,9 @@ use Rattle.std.proofs.lemmas.Iterator.Consumers.{YieldsList-turn, YieldsList-end
 use Rattle.std.proofs.lemmas.Iterator.Splits.{YieldsList-from_slice_split}
 use Rattle.std.proofs.lemmas.List.{length_push}
 use borrow.Author.Tests.{tests}
-use Rattle.type_texts.specs.Words.{lines_of}
-use Rattle.type_texts.proofs.Lines.{line_at, read_more, bad_line, all_read}
+use Rattle.line_texts.proofs.Lines.{bad_line, line_at, says_all}
+use Rattle.type_texts.specs.Words.{IsMalformed, lines_of, Says}
+use Rattle.type_texts.proofs.Lines.{read_more}
 use Rattle.type_texts.proofs.reading.lines_in.Goals as goal
 
 pub loop-before-preserved : goal.loop-before-preserved
@@ -31,7 +32,7 @@ returns-clause-lines c =
     (YieldsList-from_slice_split _ (λ byte. byte == 10) c.args.text.now c.split.ensures.rest c.split.ensures.done
     c.split.ensures.closure (λ x b q k. search (rules, tests)))) c.enumerate-before-items.ensures.count))
     c.loop-before.yielded _ c.loop-before.yielded_by _ _ c.in-None.is c.next.ensures.steps in
-    all_read c.args.text.now _ c.loop-before.lines.items c.loop-before.invariant end.1
+    says_all Says c.args.text.now _ _ c.loop-before.invariant end.1
 
 pub returns-in-Err-Malformed-clause-fault : goal.returns-in-Err-Malformed-clause-fault
 returns-in-Err-Malformed-clause-fault c =
@@ -43,5 +44,5 @@ returns-in-Err-Malformed-clause-fault c =
     c.split.ensures.closure (λ x b q k. search (rules, tests)))) c.enumerate-before-items.ensures.count))
     c.loop-before.yielded _ c.loop-before.yielded_by _ _ (c.in-Some.before, c.in-Some.line)
     c.in-Some.is c.next.ensures.steps) in
-    bad_line _ _ _ _ c.in-Some.line.now c.loop-before.invariant at.1
+    bad_line Says IsMalformed _ _ _ _ c.in-Some.line.now c.loop-before.invariant at.1
     (c.in-Err-Malformed.ensures.malformed (ap Err c.in-Err-Malformed.field-0-is)) (ap (λ m. m + 1) at.0)

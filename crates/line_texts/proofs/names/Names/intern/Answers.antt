@@ -11,7 +11,9 @@ use Rattle.line_texts.proofs.names.Names.intern.Goals as goal
 
 pub returns-in-Some-clause-names : goal.returns-in-Some-clause-names
 returns-in-Some-clause-names c = with_known c.args.self.now c.args.name.now c.in-Some.number
-    ((c.in-Some.ensures c.in-Some.number).0 (refl {a = Some c.in-Some.number}))
+    (subst (λ name. slice_get c.args.self.now c.in-Some.number ≡ Some name) c.new-name.ensures
+    (rw (← c.self.view_is, ← c.as_slice.ensures.value)
+    ((c.in-Some.ensures c.in-Some.number).0 (refl {a = Some c.in-Some.number}))))
 
 pub invariant_of-self-2 : goal.invariant_of-self-2
 invariant_of-self-2 c =
@@ -23,7 +25,7 @@ invariant_of-self-2 c =
     × (inside.names.items ≡ keys) = elim c.if-number-self.branch [
       | then-number-self+in_ok-self-inside w ↦ rw w.self-inside-is (
         subst (λ ks. AreLinked w.max-heads.result w.in_ok-self-inside.field-0.items ks (length ks))
-            (w.as_slice.ensures.value ∙ names) w.in_ok-self-inside.ensures,
+            (w.as_slice-then-number-self.ensures.value ∙ names) w.in_ok-self-inside.ensures,
         omega (
           arith,
           w.max-heads.ensures,
@@ -44,7 +46,7 @@ invariant_of-self-2 c =
     found_more inside.heads inside.links.items c.link.new.links.items keys c.push_reserved.new.self.items
     c.new-name.result c.len-number.result (subst (AreLinked inside.heads inside.links.items keys) (sym is) ready.0)
     c.self.invariant.distinct is (omega (arith, c.len-number.ensures, ready.1)) pushed
-    (λ n at. let there = (c.in_default.ensures n).1 (rw (← c.self.view_is, ← c.new-name.ensures) at) in cc)
+    (λ n at. let there = (c.in_default.ensures n).1 (rw c.as_slice.ensures.value at) in cc)
     c.link.ensures.room
     (subst (λ l. LeadsTo c.link.new.links.items (inside.heads + 2 * c.len-number.result) (head_of l inside.heads) l)
     c.letters.ensures c.link.ensures.linked) c.link.ensures.kept
@@ -74,4 +76,5 @@ returns-clause-names c =
     ] in
     let pushed = c.push_reserved.ensures.items ∙ ap (λ xs. xs ++ c.new-name.result ∷ []) same in
     rw (← c.self.view_is) (texts_grown c.self.inside.names.items _ c.new-name.result c.args.name.now c.new-name.ensures
-    pushed (λ n at. let there = (c.in_default.ensures n).1 (rw (← c.self.view_is) at) in cc))
+    pushed (λ n at.
+    let there = (c.in_default.ensures n).1 (rw (c.as_slice.ensures.value, c.new-name.ensures) at) in cc))

@@ -6,7 +6,9 @@ use Rattle.std.proofs.lemmas.Iterator.Splits.{YieldsList-from_slice_split}
 use Rattle.std.proofs.lemmas.List.{length_push}
 use borrow.Author.Tests.{tests}
 use Rattle.rule_tables.specs.Words.{lines_of}
-use Rattle.rule_tables.proofs.Lines.{line_at, read_more, bad_line, all_read}
+use Rattle.line_texts.proofs.Lines.{bad_line, line_at}
+use Rattle.rule_tables.proofs.Lines.{read_more, all_read}
+use Rattle.rule_tables.specs.Words.{IsMalformed, Says}
 use Rattle.rule_tables.proofs.rules.Rules.read.Goals as goal
 
 pub loop-before-preserved : goal.loop-before-preserved
@@ -32,7 +34,7 @@ returns-in-Err-Malformed-clause-bad_line c = λ n e.
     c.loop-before.yielded _ c.loop-before.yielded_by _ _ (c.in-Some.before, c.in-Some.line)
     c.in-Some.is c.next.ensures.steps) in
     let number : n ≡ c.in-Some.before + 1 = cc in
-    bad_line _ _ n _ _ c.loop-before.invariant at.1
+    bad_line Says IsMalformed _ _ n _ _ c.loop-before.invariant.lines at.1
     (c.in-Err-Malformed.ensures.malformed (ap Err c.in-Err-Malformed.field-0-is)) (number ∙ ap (λ m. m + 1) at.0)
 
 pub returns-in-Ok-finish-clause-ok : goal.returns-in-Ok-finish-clause-ok
