@@ -2,15 +2,11 @@
 use Rattle.std.proofs.Common.{◌≡◌, ◌∙◌, All, ap, List, [], ◌∷◌, ◌++◌, refl, sym, ℕ}
 use Rattle.std.proofs.lemmas.List.Elements.{All-head, All-tail}
 use Rattle.json.specs.Token.{Token, begin_array, end_array, key}
+use Rattle.graph_data.specs.Ends.{Parts}
 use Rattle.graph_data.specs.Data.{array_tokens, list_tokens, member_tokens, Spells, StandsFirst}
 
 module _ {A : Type 0} (spelled : A → List Token → List Token) where
-  -- where a value ends is told by its tokens, and they are not the end of an array
-  pub record Parts : Type 0 where
-    pub tail : (x y : A) (r s : List Token) → spelled x r ≡ spelled y s → r ≡ s
-    pub is_no_end : (x : A) (r s : List Token) → spelled x r ≡ end_array ∷ s → ⊥
-
-  -- and so is which it is, where P holds
+  -- where P holds, which value it is is told by its tokens
   abbrev pub Tells : (A → Type 0) → Type 0
   Tells P = (x y : A) (r s : List Token) → P x → P y → spelled x r ≡ spelled y s → x ≡ y
 
@@ -28,15 +24,7 @@ module _ {A : Type 0} (spelled : A → List Token → List Token) where
       ∙ sym (ap (λ zs. key name ∷ begin_array ∷ list_tokens spelled zs after) same
       ∙ ap (λ ts. key name ∷ begin_array ∷ ts) (list_tokens-push xs x after))
 
-  module _ (parts : Parts) where
-    -- the array's values tell where it ends
-    pub array_tail : (xs ys : List A) (r s : List Token)
-        → list_tokens spelled xs (end_array ∷ r) ≡ list_tokens spelled ys (end_array ∷ s) → r ≡ s
-    array_tail [] [] r s h = cc
-    array_tail [] (y ∷ ys) r s h = absurd (parts.is_no_end y _ _ (sym h))
-    array_tail (x ∷ xs) [] r s h = absurd (parts.is_no_end x _ _ h)
-    array_tail (x ∷ xs) (y ∷ ys) r s h = array_tail xs ys r s (parts.tail x y _ _ h)
-
+  module _ (parts : Parts spelled) where
     pub array_told : (P : A → Type 0) → Tells P → (xs ys : List A) (r s : List Token) → All P xs → All P ys
         → list_tokens spelled xs (end_array ∷ r) ≡ list_tokens spelled ys (end_array ∷ s) → xs ≡ ys
     array_told P tells [] [] r s p q h = refl

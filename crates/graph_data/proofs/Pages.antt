@@ -1,5 +1,5 @@
 -- A page of data, and the rules on it.
-use Rattle.std.proofs.Common.{◌≡◌, ◌∙◌, ℕ, All, ap, append_assoc, codes, List, [], ◌∷◌, ◌++◌, None, Option, Some}
+use Rattle.std.proofs.Common.{◌≡◌, ◌∙◌, ℕ, All, ap, append_assoc, codes, drop, List, [], ◌∷◌, ◌++◌, None, Option, Some}
 use Rattle.std.proofs.Common.{subst, sym}
 use Rattle.std.specs.Prelude.{⊤, Err, IfOk, IsSomeAnd, Ok, Result, MatchOption, slice_get}
 use Rattle.std.proofs.lemmas.List.{flat_map_more}
@@ -8,10 +8,11 @@ use Rattle.json.specs.Token.{Token, begin_object, end_array, end_object, key}
 use Rattle.line_texts.specs.Lines.{lines_of}
 use Rattle.rule_tables.specs.Grammar.{Says}
 use Rattle.rule_tables.specs.Table.{IsTableOf}
-use Rattle.graph_data.proofs.Arrays.{array_tail, array_told, Parts, Tells}
+use Rattle.graph_data.proofs.Arrays.{array_told, Tells}
+use Rattle.graph_data.specs.Ends.{array_ends, array_tail, claim_parts, Parts}
 use Rattle.graph_data.proofs.Lists.{zip_one}
 use Rattle.graph_data.proofs.Names.{have_own_names}
-use Rattle.graph_data.proofs.Readback.{claim_parts, claim_tells}
+use Rattle.graph_data.proofs.Readback.{claim_tells}
 use Rattle.graph_data.proofs.SameRules.{same_rules}
 use Rattle.graph_data.proofs.Statements.{says_one}
 use Rattle.graph_data.specs.Below.{IsFirstBadLine, names_of, Reads, Rules}
@@ -133,11 +134,8 @@ module _ (whole rest : List Token) (rules : Rules) (has : HasRules whole rules r
     pub page_end : (t₁ : List Token) (claims : List PlainClaim)
         → rest ≡ member_tokens (codes "answers") (array_tokens (claim_tokens (names_of rules))) claims t₁
         → t₁ ≡ end_object ∷ []
-    page_end t₁ claims has_claims =
-        let left = claims_and_end in
-        let same : list_tokens (claim_tokens (names_of rules)) claims (end_array ∷ t₁)
-        ≡ list_tokens (claim_tokens (names_of rules)) page.claims (end_array ∷ end_object ∷ []) = cc in
-        array_tail (claim_tokens (names_of rules)) (claim_parts (names_of rules)) claims page.claims _ _ same
+    page_end t₁ claims has_claims = array_ends (claim_parts (names_of rules)) claims page.claims t₁ (end_object ∷ [])
+        (ap (drop 1) (sym has_claims ∙ claims_and_end))
 
 -- ---- so a page tells its claims
 

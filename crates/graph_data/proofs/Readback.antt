@@ -1,17 +1,19 @@
 -- What tokens spell is told by them.
-use Rattle.std.proofs.Common.{◌≡◌, ◌∙◌, ◌&&◌, ℕ, List, ◌∷◌, Some, ap, sym, refl, cond, nat_eq, get_or, length}
-use Rattle.std.proofs.Common.{decimal, codes}
+use Rattle.std.proofs.Common.{◌≡◌, ◌∙◌, ◌&&◌, ℕ, List, Some, ap, sym, refl, cond, nat_eq, get_or, length}
+use Rattle.std.proofs.Common.{decimal}
 use Rattle.std.proofs.lemmas.Fmt.{decimal_injective}
 use Rattle.std.specs.Prelude.{⊤}
-use Rattle.json.specs.Token.{Token, end_array, end_object, key}
+use Rattle.json.specs.Token.{Token}
 use Rattle.path_kinds.specs.declared.path.PathKind.{PathKind}
 use Rattle.path_kinds.specs.declared.path.PathKind.TheVariants.{Coinductive, ForcedAmbiguity, Inductive, Unknown}
 use Rattle.search_context.specs.declared.context.Edge.{Edge}
 use Rattle.search_context.specs.declared.context.Reply.TheVariants.{Answer, Begin, Noted}
-use Rattle.graph_data.proofs.Arrays.{array_tail, array_told, Parts, Tells}
+use Rattle.graph_data.proofs.Arrays.{array_told, Tells}
+use Rattle.graph_data.specs.Ends.{claim_nodes, claim_tail, edge_parts, node_edges, node_parts, node_replies}
+use Rattle.graph_data.specs.Ends.{node_rest, reply_parts}
 use Rattle.graph_data.specs.Below.{Goal, Maybe, No, Outcome, Overflow, Reply, word_of, Yes}
-use Rattle.graph_data.specs.Data.{array_tokens, claim_tokens, edge_tokens, HaveOwnNames, IsClaim, IsEdge, IsNamed}
-use Rattle.graph_data.specs.Data.{IsNode, list_tokens, node_tokens, outcome_tokens, PlainClaim, PlainNode}
+use Rattle.graph_data.specs.Data.{claim_tokens, edge_tokens, HaveOwnNames, IsClaim, IsEdge, IsNamed}
+use Rattle.graph_data.specs.Data.{IsNode, node_tokens, PlainClaim, PlainNode}
 use Rattle.graph_data.specs.Data.{reply_tokens, reply_word}
 use Rattle.graph_texts.specs.Words.{goal_text, letter_of}
 
@@ -77,57 +79,10 @@ claim_same x y goal outcome nodes =
     ∙ ap (λ o. record { goal = y.goal; outcome = o; nodes = x.nodes }) outcome
     ∙ ap (λ ns. record { goal = y.goal; outcome = y.outcome; nodes = ns }) nodes
 
-pub reply_parts : Parts reply_tokens
-reply_parts = record { tail = λ x y r s h. cc; is_no_end = λ x r s h. absurd (cc) }
-
 reply_tells : Tells reply_tokens (λ _. ⊤)
 reply_tells x y r s p q h = let word : reply_word x ≡ reply_word y = cc in reply_told x y word
 
 module _ (names : List (List ℕ)) where
-  pub edge_parts : Parts (edge_tokens names)
-  edge_parts = record { tail = λ x y r s h. cc; is_no_end = λ x r s h. absurd (cc) }
-
-  -- what follows the replies of a node
-  abbrev pub after_replies : PlainNode → List Token → List Token
-  after_replies node rest = key (codes "result") ∷ outcome_tokens node.result
-      (key (codes "edges") ∷ array_tokens (edge_tokens names) node.edges (end_object ∷ rest))
-
-  node_replies : (x y : PlainNode) (r s : List Token) → node_tokens names x r ≡ node_tokens names y s →
-      list_tokens reply_tokens x.replies (end_array ∷ after_replies x r)
-      ≡ list_tokens reply_tokens y.replies (end_array ∷ after_replies y s)
-  node_replies x y r s h = cc
-
-  node_rest : (x y : PlainNode) (r s : List Token) → node_tokens names x r ≡ node_tokens names y s
-      → after_replies x r ≡ after_replies y s
-  node_rest x y r s h = array_tail reply_tokens reply_parts x.replies y.replies _ _ (node_replies x y r s h)
-
-  node_edges : (x y : PlainNode) (r s : List Token) → after_replies x r ≡ after_replies y s →
-      list_tokens (edge_tokens names) x.edges (end_array ∷ end_object ∷ r)
-      ≡ list_tokens (edge_tokens names) y.edges (end_array ∷ end_object ∷ s)
-  node_edges x y r s h = cc
-
-  node_tail : (x y : PlainNode) (r s : List Token) → node_tokens names x r ≡ node_tokens names y s → r ≡ s
-  node_tail x y r s h =
-      let ends =
-      array_tail (edge_tokens names) edge_parts x.edges y.edges _ _ (node_edges x y r s (node_rest x y r s h)) in
-      cc (ends)
-
-  pub node_parts : Parts (node_tokens names)
-  node_parts = record { tail = node_tail; is_no_end = λ x r s h. absurd (cc) }
-
-  claim_nodes : (x y : PlainClaim) (r s : List Token) → claim_tokens names x r ≡ claim_tokens names y s →
-      list_tokens (node_tokens names) x.nodes (end_array ∷ end_object ∷ r)
-      ≡ list_tokens (node_tokens names) y.nodes (end_array ∷ end_object ∷ s)
-  claim_nodes x y r s h = cc
-
-  pub claim_tail : (x y : PlainClaim) (r s : List Token) → claim_tokens names x r ≡ claim_tokens names y s → r ≡ s
-  claim_tail x y r s h =
-      let ends = array_tail (node_tokens names) node_parts x.nodes y.nodes _ _ (claim_nodes x y r s h) in
-      cc (ends)
-
-  pub claim_parts : Parts (claim_tokens names)
-  claim_parts = record { tail = claim_tail; is_no_end = λ x r s h. absurd (cc) }
-
   module _ (own : HaveOwnNames names) where
     goal_told : (a b : Goal) → IsNamed names a → IsNamed names b → goal_text names a ≡ goal_text names b → a ≡ b
     goal_told a b named_a named_b h = own a b (goal_text names b) (named_a ∙ ap Some h) named_b
@@ -144,11 +99,11 @@ module _ (names : List (List ℕ)) where
     node_tells x y r s p q h =
         let name : goal_text names x.goal ≡ goal_text names y.goal = cc in
         let replies = array_told reply_tokens reply_parts (λ _. ⊤) reply_tells x.replies y.replies _ _ (λ k d b. tt)
-        (λ k d b. tt) (node_replies x y r s h) in
-        let after = node_rest x y r s h in
+        (λ k d b. tt) (node_replies names x y r s h) in
+        let after = node_rest names x y r s h in
         let word : word_of x.result ≡ word_of y.result = cc (after) in
-        let edges = array_told (edge_tokens names) edge_parts (IsEdge names) edge_tells x.edges y.edges _ _
-        p.1 q.1 (node_edges x y r s after) in
+        let edges = array_told (edge_tokens names) (edge_parts names) (IsEdge names) edge_tells x.edges y.edges _ _
+        p.1 q.1 (node_edges names x y r s after) in
         node_same x y (goal_told x.goal y.goal p.0 q.0 name) replies (outcome_told x.result y.result word) edges
 
     -- the same tokens spell the same claim
@@ -156,10 +111,10 @@ module _ (names : List (List ℕ)) where
     claim_tells x y r s p q h =
         let name : goal_text names x.goal ≡ goal_text names y.goal = cc in
         let word : word_of x.outcome ≡ word_of y.outcome = cc in
-        let nodes = array_told (node_tokens names) node_parts (IsNode names) node_tells x.nodes y.nodes _
-        _ p.1 q.1 (claim_nodes x y r s h) in
+        let nodes = array_told (node_tokens names) (node_parts names) (IsNode names) node_tells x.nodes y.nodes _
+        _ p.1 q.1 (claim_nodes names x y r s h) in
         claim_same x y (goal_told x.goal y.goal p.0 q.0 name) (outcome_told x.outcome y.outcome word) nodes
 
     pub claim_told : (x y : PlainClaim) (r s : List Token) → IsClaim names x → IsClaim names y
         → claim_tokens names x r ≡ claim_tokens names y s → (x ≡ y) × (r ≡ s)
-    claim_told x y r s p q h = (claim_tells x y r s p q h, claim_tail x y r s h)
+    claim_told x y r s p q h = (claim_tells x y r s p q h, claim_tail names x y r s h)

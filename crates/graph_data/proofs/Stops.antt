@@ -16,10 +16,11 @@ stops_bad P (BadData n) bad never = never
 stops_bad P Memory bad never = tt
 
 -- A stop is passed on. Where the whole is there, so is the part that was not found.
-pub stops_before : {T : Type 0} (P Q : Type 0) (result : Result T DataFault) (stop : DataFault) → (Q → P)
+pub stops_before : {T P Q : Type 0} (result : Result T DataFault) (stop : DataFault) → (Q → P)
     → IsErrAnd result (λ passed. passed ≡ stop) → StopsUnless P stop → IfErr result (StopsUnless Q)
-stops_before P Q (Ok x) stop part passed stops = absurd passed
-stops_before P Q (Err e) stop part passed stops = subst (StopsUnless Q) (sym passed) (stops_without P Q stop part stops)
+stops_before (Ok x) stop part passed stops = absurd passed
+stops_before {P = P} {Q = Q} (Err e) stop part passed stops =
+    subst (StopsUnless Q) (sym passed) (stops_without P Q stop part stops)
 
 -- The same of a result that is handed on.
 pub stops_part : {T : Type 0} (P Q : Type 0) (result : Result T DataFault) → (Q → P)

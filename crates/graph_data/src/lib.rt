@@ -4,6 +4,7 @@
 //! | File of `specs/` | Has |
 //! |---|---|
 //! | `Data` | the tokens that spell graphs as data |
+//! | `Ends` | where a value ends is told by its tokens |
 //! | `Page` | a whole page of data |
 //! | `Rules` | the rules on a page, and when two tables are the same |
 //! | `Fault` | why reading ends early |

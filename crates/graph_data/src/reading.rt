@@ -2,15 +2,19 @@
 ghost use Rattle.std.specs.Prelude.{◌≡◌, ◌≢◌, ℕ, All, codes, List, map, IfErr, IfNone, IfOk, IfSome, ⊤};
 ghost use Rattle.json.specs.Lex.{tokens};
 ghost use Rattle.json.specs.Token.{Token as SpecToken};
-ghost use Rattle.graph_data.specs.Below.{names_of, Outcome as SpecOutcome, Reads, Reply as SpecReply, Rules as SpecRules, word_of};
-ghost use Rattle.graph_data.specs.Data.{array_tokens, claim_tokens, edge_tokens, goal_tokens, HaveOwnNames, IsClaim, IsEdge, IsNamed, IsNode, kind_tokens, left_in, member_tokens, node_tokens, outcome_tokens, plain_claim, plain_node, PlainClaim, reply_tokens, reply_word, Spells, string_tokens};
+ghost use Rattle.search_context.specs.declared.context.Edge.{Edge as SpecEdge};
+ghost use Rattle.graph_data.specs.Below.{Goal as SpecGoal, names_of, Outcome as SpecOutcome, Reads, Reply as SpecReply, Rules as SpecRules, word_of};
+ghost use Rattle.graph_data.specs.Data.{array_tokens, claim_tokens, edge_tokens, goal_tokens, HaveOwnNames, IsClaim, IsEdge, IsNamed, IsNode, kind_tokens, left_in, member_tokens, node_tokens, outcome_tokens, plain_claim, plain_node, PlainClaim, PlainNode, reply_tokens, reply_word, Spells, string_tokens};
+ghost use Rattle.graph_data.specs.Ends.{claim_parts, edge_parts, node_parts, reply_parts};
 ghost use Rattle.graph_data.specs.Page.{AreOfPage, HasRules, IsPage, text_of};
 ghost use Rattle.graph_data.specs.Page.{IsPageText};
 ghost use Rattle.graph_data.specs.Fault.{StopsUnless};
 
+mod array;
 mod source;
 
 use crate::fault::DataFault;
+use array::{Item, read_array};
 use graph_texts::kind_of;
 use json::{Reader, Scratch};
 use rule_tables::{Goal, Outcome, ReadFault, Rules};
@@ -56,7 +60,7 @@ fn read_claims(alloc: Global, source: &mut Source<'_>) -> Result<Claims, DataFau
     ensures refused { IfErr result (StopsUnless (AreOfPage (left_in source.old))) }
 {
     let rules = read_rules(alloc, source)?;
-    let all = read_answers(alloc, source, &rules)?;
+    let all = read_array(alloc, source, &rules, "answers")?;
     source.end()?;
     Ok(Claims { rules, all })
 }
@@ -106,30 +110,6 @@ fn rules_of(alloc: Global, source: &Source<'_>, text: &[u8]) -> Result<Rules, Da
     }
 }
 
-fn read_answers(
-    alloc: Global,
-    source: &mut Source<'_>,
-    rules: &Rules,
-) -> Result<Vec<Claim>, DataFault>
-    ensures spelled { IfOk result (λ claims. left_in source.old
-        ≡ member_tokens (codes "answers") (array_tokens (claim_tokens (names_of rules.now)))
-        (map plain_claim claims.items) (left_in source.new)) }
-    ensures named { IfOk result
-        (λ claims. All (IsClaim (names_of rules.now)) (map plain_claim claims.items)) }
-    ensures refused { IfErr result (StopsUnless (Spells (All (IsClaim (names_of rules.now)))
-        (member_tokens (codes "answers") (array_tokens (claim_tokens (names_of rules.now)))) (left_in source.old))) }
-{
-    source.begin_array_at("answers")?;
-    let mut claims = Vec::new(alloc);
-    for _ in 0..u64::MAX {
-        if source.is_end_of_array() {
-            return Ok(claims);
-        }
-        claims.push(read_claim(alloc, source, rules)?)?;
-    }
-    Err(DataFault::Memory)
-}
-
 fn read_claim(alloc: Global, source: &mut Source<'_>, rules: &Rules) -> Result<Claim, DataFault>
     ensures spelled { IfOk result (λ claim. left_in source.old
         ≡ claim_tokens (names_of rules.now) (plain_claim claim) (left_in source.new)) }
@@ -158,7 +138,7 @@ fn read_members(alloc: Global, source: &mut Source<'_>, rules: &Rules) -> Result
     source.begin_object()?;
     let goal = read_goal(source, rules)?;
     let outcome = read_outcome(source, "verdict")?;
-    let nodes = read_nodes(alloc, source, rules)?;
+    let nodes = read_array(alloc, source, rules, "nodes")?;
     source.end_object()?;
     Ok(Claim {
         goal,
@@ -167,122 +147,101 @@ fn read_members(alloc: Global, source: &mut Source<'_>, rules: &Rules) -> Result
     })
 }
 
-fn read_nodes(
-    alloc: Global,
-    source: &mut Source<'_>,
-    rules: &Rules,
-) -> Result<Vec<Node<Goal, Outcome>>, DataFault>
-    ensures spelled { IfOk result (λ nodes. left_in source.old
-        ≡ member_tokens (codes "nodes") (array_tokens (node_tokens (names_of rules.now)))
-        (map plain_node nodes.items) (left_in source.new)) }
-    ensures named { IfOk result
-        (λ nodes. All (IsNode (names_of rules.now)) (map plain_node nodes.items)) }
-    ensures refused { IfErr result (StopsUnless (Spells (All (IsNode (names_of rules.now)))
-        (member_tokens (codes "nodes") (array_tokens (node_tokens (names_of rules.now)))) (left_in source.old))) }
-{
-    source.begin_array_at("nodes")?;
-    let mut nodes = Vec::new(alloc);
-    for _ in 0..u64::MAX {
-        if source.is_end_of_array() {
-            return Ok(nodes);
-        }
-        nodes.push(read_node(alloc, source, rules)?)?;
+impl Item for Claim {
+    ghost Plain = { PlainClaim };
+
+    ghost plain = { plain_claim };
+
+    ghost spelled = { claim_tokens };
+
+    ghost is_right = { IsClaim };
+
+    fn read(alloc: Global, source: &mut Source<'_>, rules: &Rules) -> Result<Claim, DataFault> {
+        read_claim(alloc, source, rules)
     }
-    Err(DataFault::Memory)
+
+    ghost parts = { claim_parts };
 }
 
-fn read_node(
-    alloc: Global,
-    source: &mut Source<'_>,
-    rules: &Rules,
-) -> Result<Node<Goal, Outcome>, DataFault>
-    ensures spelled { IfOk result (λ node. left_in source.old
-        ≡ node_tokens (names_of rules.now) (plain_node node) (left_in source.new)) }
-    ensures named { IfOk result (λ node. IsNode (names_of rules.now) (plain_node node)) }
-    ensures refused { IfErr result (StopsUnless
-        (Spells (IsNode (names_of rules.now)) (node_tokens (names_of rules.now)) (left_in source.old))) }
-{
-    source.begin_object()?;
-    let input = read_goal(source, rules)?;
-    let replies = read_replies(alloc, source)?;
-    let result = read_outcome(source, "result")?;
-    let edges = read_edges(alloc, source, rules)?;
-    source.end_object()?;
-    Ok(Node {
-        input,
-        replies,
-        edges,
-        result,
-    })
-}
+impl Item for Node<Goal, Outcome> {
+    ghost Plain = { PlainNode };
 
-fn read_replies(alloc: Global, source: &mut Source<'_>) -> Result<Vec<Reply<Outcome>>, DataFault>
-    ensures spelled { IfOk result (λ replies. left_in source.old
-        ≡ member_tokens (codes "replies") (array_tokens reply_tokens) replies.items (left_in source.new)) }
-    ensures refused { IfErr result (StopsUnless
-        (Spells (λ _. ⊤) (member_tokens (codes "replies") (array_tokens reply_tokens)) (left_in source.old))) }
-{
-    source.begin_array_at("replies")?;
-    let mut replies = Vec::new(alloc);
-    for _ in 0..u64::MAX {
-        if source.is_end_of_array() {
-            return Ok(replies);
-        }
-        replies.push(read_reply(source)?)?;
+    ghost plain = { plain_node };
+
+    ghost spelled = { node_tokens };
+
+    ghost is_right = { IsNode };
+
+    fn read(
+        alloc: Global,
+        source: &mut Source<'_>,
+        rules: &Rules,
+    ) -> Result<Node<Goal, Outcome>, DataFault> {
+        source.begin_object()?;
+        let input = read_goal(source, rules)?;
+        let replies = read_array(alloc, source, rules, "replies")?;
+        let result = read_outcome(source, "result")?;
+        let edges = read_array(alloc, source, rules, "edges")?;
+        source.end_object()?;
+        Ok(Node {
+            input,
+            replies,
+            edges,
+            result,
+        })
     }
-    Err(DataFault::Memory)
+
+    ghost parts = { node_parts };
 }
 
-fn read_reply(source: &mut Source<'_>) -> Result<Reply<Outcome>, DataFault>
-    ensures spelled { IfOk result
-        (λ reply. left_in source.old ≡ reply_tokens reply (left_in source.new)) }
-    ensures refused { IfErr result
-        (StopsUnless (Spells (λ _. ⊤) reply_tokens (left_in source.old))) }
-{
-    let word = source.string()?;
-    reply_of(word).ok_or(source.fault())
-}
+impl Item for Reply<Outcome> {
+    ghost Plain = { SpecReply SpecOutcome };
 
-fn read_edges(
-    alloc: Global,
-    source: &mut Source<'_>,
-    rules: &Rules,
-) -> Result<Vec<Edge<Goal>>, DataFault>
-    ensures spelled { IfOk result (λ edges. left_in source.old
-        ≡ member_tokens (codes "edges") (array_tokens (edge_tokens (names_of rules.now))) edges.items
-        (left_in source.new)) }
-    ensures named { IfOk result (λ edges. All (IsEdge (names_of rules.now)) edges.items) }
-    ensures refused { IfErr result (StopsUnless (Spells (All (IsEdge (names_of rules.now)))
-        (member_tokens (codes "edges") (array_tokens (edge_tokens (names_of rules.now)))) (left_in source.old))) }
-{
-    source.begin_array_at("edges")?;
-    let mut edges = Vec::new(alloc);
-    for _ in 0..u64::MAX {
-        if source.is_end_of_array() {
-            return Ok(edges);
-        }
-        edges.push(read_edge(source, rules)?)?;
+    ghost plain = { λ reply. reply };
+
+    ghost spelled = { λ _. reply_tokens };
+
+    ghost is_right = { λ _ _. ⊤ };
+
+    fn read(
+        _alloc: Global,
+        source: &mut Source<'_>,
+        _rules: &Rules,
+    ) -> Result<Reply<Outcome>, DataFault> {
+        let word = source.string()?;
+        reply_of(word).ok_or(source.fault())
     }
-    Err(DataFault::Memory)
+
+    ghost parts = { λ _. reply_parts };
 }
 
-fn read_edge(source: &mut Source<'_>, rules: &Rules) -> Result<Edge<Goal>, DataFault>
-    ensures spelled { IfOk result (λ edge. left_in source.old
-        ≡ edge_tokens (names_of rules.now) edge (left_in source.new)) }
-    ensures named { IfOk result (IsEdge (names_of rules.now)) }
-    ensures refused { IfErr result (StopsUnless
-        (Spells (IsEdge (names_of rules.now)) (edge_tokens (names_of rules.now)) (left_in source.old))) }
-{
-    source.begin_object()?;
-    let kind = read_kind(source)?;
-    let input = read_goal(source, rules)?;
-    let target = source.number_at("target")?;
-    source.end_object()?;
-    Ok(Edge {
-        kind,
-        input,
-        target,
-    })
+impl Item for Edge<Goal> {
+    ghost Plain = { SpecEdge SpecGoal };
+
+    ghost plain = { λ edge. edge };
+
+    ghost spelled = { edge_tokens };
+
+    ghost is_right = { IsEdge };
+
+    fn read(
+        _alloc: Global,
+        source: &mut Source<'_>,
+        rules: &Rules,
+    ) -> Result<Edge<Goal>, DataFault> {
+        source.begin_object()?;
+        let kind = read_kind(source)?;
+        let input = read_goal(source, rules)?;
+        let target = source.number_at("target")?;
+        source.end_object()?;
+        Ok(Edge {
+            kind,
+            input,
+            target,
+        })
+    }
+
+    ghost parts = { edge_parts };
 }
 
 fn read_kind(source: &mut Source<'_>) -> Result<PathKind, DataFault>

@@ -22,7 +22,7 @@ loop-preserved c =
 
 pub returns-in_err-line-clause-refused : goal.returns-in_err-line-clause-refused
 returns-in_err-line-clause-refused c =
-    stops_before _ _ _ _ (λ all. rw c.if-is_end_of_array.ensures.0
+    stops_before _ _ (λ all. rw c.if-is_end_of_array.ensures.0
     (array_left string_tokens line_parts (codes "rules") (λ _. ⊤) c.loop.invariant.0 (left_in c.args.source.now) _
     c.loop.invariant.2 c.if-is_end_of_array.ensures.1
     (record { value = all.value; is_right = λ k d below. tt; rest = all.rest; are_its = all.are_its })))

@@ -5,11 +5,11 @@ use Rattle.graph_data.proofs.reading.read_rules.Goals as goal
 
 pub returns-in_err-begin_object-clause-refused : goal.returns-in_err-begin_object-clause-refused
 returns-in_err-begin_object-clause-refused c =
-    stops_before _ _ _ _ (λ all. (_, all.2.are_its)) c.from_residual.ensures.1 c.in_err-begin_object.ensures.refused
+    stops_before _ _ (λ all. (_, all.2.are_its)) c.from_residual.ensures.1 c.in_err-begin_object.ensures.refused
 
 pub returns-in_err-text-clause-refused : goal.returns-in_err-text-clause-refused
 returns-in_err-text-clause-refused c =
-    stops_before _ _ _ _ (λ all. lines_left _ _ c.in_ok-begin_object.ensures.read _ _ all.2)
+    stops_before _ _ (λ all. lines_left _ _ c.in_ok-begin_object.ensures.read _ _ all.2)
     c.from_residual-in_err-text.ensures.1 c.in_err-text.ensures.refused
 
 pub returns-clause-read : goal.returns-clause-read
