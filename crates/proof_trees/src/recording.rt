@@ -1,5 +1,5 @@
 //! A delegate whose builder records.
-ghost use Rattle.std.specs.Prelude.{◌≡◌, ◌≤◌, ◌<◌, ◌+◌, ℕ, true, List, [], ◌∷◌, IfOk, Ok, OnOk, Some};
+ghost use Rattle.std.specs.Prelude.{◌≡◌, ◌≤◌, ◌<◌, ◌+◌, true, List, [], ◌∷◌, IfOk, Ok, OnOk, Some};
 ghost use Rattle.search_context.specs.Delegate.{left_open};
 ghost use Rattle.proof_trees.specs.Below.{CanTake, CountsOne, Steps};
 ghost use Rattle.proof_trees.specs.Entries.{entry_of_reply, entry_of_request, entry_of_run, new_record, place_after};
@@ -10,15 +10,15 @@ ghost use Rattle.proof_trees.specs.Recorder.{and_entry, entries_of, inner_of, Is
 use crate::recorder::Recorder;
 use crate::run_record::RunRecord;
 use path_kinds::memory::NoMemory;
-use path_kinds::path::PathKind;
 use search_context::context::{Cx, Delegate, Reply, Request};
-use std::marker::PhantomData;
+use wrapped_delegates::{Wrapped, Wrapper};
 
 /// The delegate `D`, with a builder that records what its frames do. The context, the scripts, the results and the limits
 /// are those of `D`, so goals come to what they come to with `D`.
-pub struct Recording<D> {
-    delegate: PhantomData<D>,
-}
+pub type Recording<D> = Wrapped<D, RecordsRuns>;
+
+/// What such a delegate adds.
+pub enum RecordsRuns {}
 
 /// A frame, with what is remembered of its run.
 #[derive(Drop)]
@@ -41,140 +41,43 @@ pub type RecordedFrameOf<D> = RecordedFrame<
     <<D as Delegate>::Cx as Cx>::Result,
 >;
 
-impl<D: Delegate> Delegate for Recording<D> {
+impl<D: Delegate> Wrapper<D> for RecordsRuns {
     ghost use Rattle.std.specs.Prelude.{◌&&◌, not};
     ghost use Rattle.proof_trees.specs.declared.recording.RecordedFrame.{RecordedFrame};
 
-    type Cx = D::Cx;
-
-    type ValidationScope = D::ValidationScope;
-
-    type ProofTreeBuilder = RecorderOf<D>;
+    type Builder = RecorderOf<D>;
 
     type Frame = RecordedFrameOf<D>;
 
-    const ENABLE_PROVISIONAL_CACHE: bool = D::ENABLE_PROVISIONAL_CACHE;
+    ghost builder_in = { inner_of };
 
-    const FIXPOINT_STEP_LIMIT: usize = D::FIXPOINT_STEP_LIMIT;
-
-    const DIVIDE_AVAILABLE_DEPTH_ON_OVERFLOW: usize = D::DIVIDE_AVAILABLE_DEPTH_ON_OVERFLOW;
-
-    ghost ENABLE_PROVISIONAL_CACHE = { D.ENABLE_PROVISIONAL_CACHE };
-
-    ghost FIXPOINT_STEP_LIMIT = { D.FIXPOINT_STEP_LIMIT };
-
-    ghost DIVIDE_AVAILABLE_DEPTH_ON_OVERFLOW = { D.DIVIDE_AVAILABLE_DEPTH_ON_OVERFLOW };
-
-    ghost script = { D.script };
-
-    ghost stands = { λ recorded. D.stands recorded.frame };
-
-    ghost left = { λ recorded. D.left recorded.frame };
-
-    ghost width = { D.width };
-
-    ghost initial_result = { D.initial_result };
-
-    ghost initial_kind = { D.initial_kind };
-
-    ghost stack_overflow = { D.stack_overflow };
-
-    ghost fixpoint_overflow = { D.fixpoint_overflow };
-
-    ghost ambiguity = { D.ambiguity };
-
-    ghost propagated = { D.propagated };
-
-    ghost starts = { λ recorder. D.starts (inner_of recorder) };
-
-    ghost counts = { D.counts };
-
-    ghost last = { D.last };
+    ghost frame_in = { λ recorded. recorded.frame };
 
     ghost noop = { λ recorder. D.noop (inner_of recorder) && not (records recorder) };
 
-    ghost scoped = { D.scoped };
-
     ghost sees = { HasSeen };
 
-    ghost yes_is_proved = { D.yes_is_proved };
-
-    ghost no_is_refuted = { D.no_is_refuted };
-
-    ghost initial_sort = { D.initial_sort };
-
-    ghost recognised_sort = { D.recognised_sort };
-
-    ghost stack_overflow_is_neither = { D.stack_overflow_is_neither };
-
-    ghost fixpoint_overflow_is_neither = { D.fixpoint_overflow_is_neither };
-
-    ghost ambiguous_is_neither = { D.ambiguous_is_neither };
-
-    ghost propagated_is_neither = { D.propagated_is_neither };
-
-    ghost divides = { D.divides };
-
-    fn enter_validation_scope(
-        cx: D::Cx,
-        input: <D::Cx as Cx>::Input,
-    ) -> Option<D::ValidationScope> {
-        D::enter_validation_scope(cx, input)
-    }
-
-    fn inspect_is_noop(inspect: &mut Self::ProofTreeBuilder) -> bool {
+    fn inspect_is_noop(inspect: &mut RecorderOf<D>) -> bool {
         let is_noop = D::inspect_is_noop(&mut inspect.inner);
         is_noop && !inspect.is_recording()
-    }
-
-    fn initial_provisional_result(
-        cx: D::Cx,
-        kind: PathKind,
-        input: <D::Cx as Cx>::Input,
-    ) -> <D::Cx as Cx>::Result {
-        D::initial_provisional_result(cx, kind, input)
-    }
-
-    fn is_initial_provisional_result(outcome: <D::Cx as Cx>::Result) -> Option<PathKind> {
-        D::is_initial_provisional_result(outcome)
-    }
-
-    fn stack_overflow_result(cx: D::Cx, input: <D::Cx as Cx>::Input) -> <D::Cx as Cx>::Result {
-        D::stack_overflow_result(cx, input)
-    }
-
-    fn fixpoint_overflow_result(cx: D::Cx, input: <D::Cx as Cx>::Input) -> <D::Cx as Cx>::Result {
-        D::fixpoint_overflow_result(cx, input)
-    }
-
-    fn is_ambiguous_result(outcome: <D::Cx as Cx>::Result) -> Option<<D::Cx as Cx>::AmbiguityInfo> {
-        D::is_ambiguous_result(outcome)
-    }
-
-    fn propagate_ambiguity(
-        cx: D::Cx,
-        for_input: <D::Cx as Cx>::Input,
-        ambiguity_info: <D::Cx as Cx>::AmbiguityInfo,
-    ) -> <D::Cx as Cx>::Result {
-        D::propagate_ambiguity(cx, for_input, ambiguity_info)
     }
 
     fn start(
         cx: D::Cx,
         input: <D::Cx as Cx>::Input,
-        inspect: &mut Self::ProofTreeBuilder,
-    ) -> Result<Self::Frame, NoMemory> {
+        inspect: &mut RecorderOf<D>,
+    ) -> Result<RecordedFrameOf<D>, NoMemory> {
         start_recorded::<D>(cx, input, inspect)
     }
 
     fn step(
-        frame: &mut Self::Frame,
+        frame: &mut RecordedFrameOf<D>,
         reply: Reply<<D::Cx as Cx>::Result>,
-        inspect: &mut Self::ProofTreeBuilder,
+        inspect: &mut RecorderOf<D>,
     ) -> Result<Request<<D::Cx as Cx>::Input, <D::Cx as Cx>::Result>, NoMemory>
-        requires can { CanTake (λ recorded. D.stands recorded.frame) D.script frame.old reply }
+        requires can { CanTake D.stands D.script frame.old.frame reply }
         ensures request { IfOk result (λ request.
-            Steps (λ recorded. D.stands recorded.frame) D.script frame.old reply request frame.new) }
+            Steps D.stands D.script frame.old.frame reply request frame.new.frame) }
         ensures falls { OnOk result (D.left frame.new.frame < D.left frame.old.frame) }
         ensures same_starts { D.starts (inner_of inspect.new) ≡ D.starts (inner_of inspect.old) }
         ensures same_noop { (D.noop (inner_of inspect.new) && not (records inspect.new))
@@ -187,14 +90,17 @@ impl<D: Delegate> Delegate for Recording<D> {
     }
 
     // No frame is one of a run that is replayed: each run is recorded.
+    fn start_replay(_cx: D::Cx, _input: <D::Cx as Cx>::Input) -> Option<RecordedFrameOf<D>> {
+        None
+    }
+
     fn step_replay(
-        _frame: &mut Self::Frame,
+        _frame: &mut RecordedFrameOf<D>,
         _reply: Reply<<D::Cx as Cx>::Result>,
     ) -> Result<Request<<D::Cx as Cx>::Input, <D::Cx as Cx>::Result>, NoMemory>
-        requires can { CanTake (λ recorded. D.stands recorded.frame) D.script _frame.old _reply }
+        requires can { CanTake D.stands D.script _frame.old.frame _reply }
         ensures request { IfOk result (λ request.
-            Steps (λ recorded. D.stands recorded.frame) D.script _frame.old _reply request
-            _frame.new) }
+            Steps D.stands D.script _frame.old.frame _reply request _frame.new.frame) }
         ensures falls { OnOk result (D.left _frame.new.frame < D.left _frame.old.frame) }
     {
         Err(NoMemory)

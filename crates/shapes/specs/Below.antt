@@ -5,8 +5,7 @@ pub use Rattle.question_lists.specs.Needs.{Proves, Refutes}
 pub use Rattle.question_lists.specs.declared.needs.Needs.{Needs}
 pub use Rattle.question_lists.specs.declared.needs.Needs.TheVariants.{All, Any}
 pub use Rattle.search_context.specs.Question.{IsWithin, Overlap, Question}
-pub use Rattle.search_context.specs.Graph.{GraphNode, HasEdge, HasGoal, IsProofGraph, IsRefutationGraph, question_of}
-pub use Rattle.search_context.specs.declared.context.Edge.{Edge}
+pub use Rattle.search_context.specs.Graph.{GraphNode, IsProofGraph, IsRefutationGraph}
 pub use Rattle.search_context.specs.declared.context.Verdict.TheVariants.{Neither, No, Yes}
 pub use Rattle.search_rules.specs.Results.{AreDefinite}
 pub use Rattle.search_context.specs.Decisive.{IsDecidedKind, IsDecisive}

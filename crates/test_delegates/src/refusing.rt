@@ -2,13 +2,13 @@
 ghost use Rattle.std.specs.Prelude.{◌≡◌};
 
 use search_parts::context::{Cx, Delegate, NoMemory, Reply, Request};
-use search_parts::path::PathKind;
-use std::marker::PhantomData;
+use wrapped_delegates::{Wrapped, Wrapper};
 
 /// The delegate `D`, of whose frames one may be refused memory.
-pub struct Refusing<D> {
-    delegate: PhantomData<D>,
-}
+pub type Refusing<D> = Wrapped<D, RefusesCalls>;
+
+/// What such a delegate adds.
+pub enum RefusesCalls {}
 
 /// The builder of `D`, and at which call of a frame memory is out.
 #[derive(Drop)]
@@ -28,119 +28,22 @@ impl<B> Refusals<B> {
     }
 }
 
-impl<D: Delegate> Delegate for Refusing<D> {
+impl<D: Delegate> Wrapper<D> for RefusesCalls {
     ghost use Rattle.std.specs.Prelude.{◌<◌, IfOk, OnOk};
     ghost use Rattle.search_context.specs.Delegate.{CanTake, Steps};
 
-    type Cx = D::Cx;
-
-    type ValidationScope = D::ValidationScope;
-
-    type ProofTreeBuilder = Refusals<D::ProofTreeBuilder>;
+    type Builder = Refusals<D::ProofTreeBuilder>;
 
     type Frame = D::Frame;
 
-    const ENABLE_PROVISIONAL_CACHE: bool = D::ENABLE_PROVISIONAL_CACHE;
+    ghost builder_in = { λ refusals. refusals.builder };
 
-    const FIXPOINT_STEP_LIMIT: usize = D::FIXPOINT_STEP_LIMIT;
-
-    const DIVIDE_AVAILABLE_DEPTH_ON_OVERFLOW: usize = D::DIVIDE_AVAILABLE_DEPTH_ON_OVERFLOW;
-
-    ghost ENABLE_PROVISIONAL_CACHE = { D.ENABLE_PROVISIONAL_CACHE };
-
-    ghost FIXPOINT_STEP_LIMIT = { D.FIXPOINT_STEP_LIMIT };
-
-    ghost DIVIDE_AVAILABLE_DEPTH_ON_OVERFLOW = { D.DIVIDE_AVAILABLE_DEPTH_ON_OVERFLOW };
-
-    ghost script = { D.script };
-
-    ghost stands = { D.stands };
-
-    ghost left = { D.left };
-
-    ghost width = { D.width };
-
-    ghost initial_result = { D.initial_result };
-
-    ghost initial_kind = { D.initial_kind };
-
-    ghost stack_overflow = { D.stack_overflow };
-
-    ghost fixpoint_overflow = { D.fixpoint_overflow };
-
-    ghost ambiguity = { D.ambiguity };
-
-    ghost propagated = { D.propagated };
-
-    ghost starts = { λ refusals. D.starts refusals.builder };
-
-    ghost counts = { D.counts };
-
-    ghost last = { D.last };
+    ghost frame_in = { λ frame. frame };
 
     ghost noop = { λ refusals. D.noop refusals.builder };
 
-    ghost scoped = { D.scoped };
-
-    ghost yes_is_proved = { D.yes_is_proved };
-
-    ghost no_is_refuted = { D.no_is_refuted };
-
-    ghost initial_sort = { D.initial_sort };
-
-    ghost recognised_sort = { D.recognised_sort };
-
-    ghost stack_overflow_is_neither = { D.stack_overflow_is_neither };
-
-    ghost fixpoint_overflow_is_neither = { D.fixpoint_overflow_is_neither };
-
-    ghost ambiguous_is_neither = { D.ambiguous_is_neither };
-
-    ghost propagated_is_neither = { D.propagated_is_neither };
-
-    ghost divides = { D.divides };
-
-    fn enter_validation_scope(
-        cx: D::Cx,
-        input: <D::Cx as Cx>::Input,
-    ) -> Option<D::ValidationScope> {
-        D::enter_validation_scope(cx, input)
-    }
-
     fn inspect_is_noop(inspect: &mut Refusals<D::ProofTreeBuilder>) -> bool {
         D::inspect_is_noop(&mut inspect.builder)
-    }
-
-    fn initial_provisional_result(
-        cx: D::Cx,
-        kind: PathKind,
-        input: <D::Cx as Cx>::Input,
-    ) -> <D::Cx as Cx>::Result {
-        D::initial_provisional_result(cx, kind, input)
-    }
-
-    fn is_initial_provisional_result(outcome: <D::Cx as Cx>::Result) -> Option<PathKind> {
-        D::is_initial_provisional_result(outcome)
-    }
-
-    fn stack_overflow_result(cx: D::Cx, input: <D::Cx as Cx>::Input) -> <D::Cx as Cx>::Result {
-        D::stack_overflow_result(cx, input)
-    }
-
-    fn fixpoint_overflow_result(cx: D::Cx, input: <D::Cx as Cx>::Input) -> <D::Cx as Cx>::Result {
-        D::fixpoint_overflow_result(cx, input)
-    }
-
-    fn is_ambiguous_result(outcome: <D::Cx as Cx>::Result) -> Option<<D::Cx as Cx>::AmbiguityInfo> {
-        D::is_ambiguous_result(outcome)
-    }
-
-    fn propagate_ambiguity(
-        cx: D::Cx,
-        for_input: <D::Cx as Cx>::Input,
-        ambiguity_info: <D::Cx as Cx>::AmbiguityInfo,
-    ) -> <D::Cx as Cx>::Result {
-        D::propagate_ambiguity(cx, for_input, ambiguity_info)
     }
 
     fn start(

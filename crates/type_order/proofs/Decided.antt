@@ -1,10 +1,9 @@
 -- A proof graph of a pair gives a simulation, and a refutation graph leaves none.
-use Rattle.std.proofs.Common.{◌≡◌, ℕ, ◌⊎◌, inl, inr, List, map, slice_get, Contains, Option, None, Some, refl, sym, ap}
-use Rattle.std.proofs.Common.{ap₂, ◌∙◌, subst}
+use Rattle.std.proofs.Common.{◌≡◌, ℕ, ◌⊎◌, inl, inr, List, [], map, Contains, Option, None, Some, refl, sym, subst}
 use Rattle.std.specs.Option.{IsSomeAnd}
-use Rattle.search_context.proofs.Graphs.{Contains-map, Contains-mapped, goal_node, HasEdge-from}
-use Rattle.type_order.specs.Below.{Coinductive, Edge, GraphNode, HasEdge, HasGoal, IsProofGraph, IsRefutationGraph}
-use Rattle.type_order.specs.Below.{question_of, Question, Needs, All, Any, Proves, Refutes}
+use Rattle.search_context.proofs.Graphs.{Contains-map, Contains-mapped}
+use Rattle.type_order.specs.Below.{Coinductive, GraphNode, IsProofGraph, IsRefutationGraph}
+use Rattle.type_order.specs.Below.{Question, Needs, All, Any, Proves, Refutes}
 use Rattle.search_context.specs.declared.context.NodeId.{NodeId}
 use Rattle.search_context.specs.Decisive.{IsDecidedKind, IsDecisive}
 use Rattle.search_context.specs.Verdicts.{IsDefinite}
@@ -16,7 +15,8 @@ use Rattle.type_order.specs.Rule.{asks, needs_of, pair, pairs_of, questions_of}
 use Rattle.type_order.specs.declared.delegate.Pair.{Pair}
 use Rattle.type_order.proofs.Follows.{follows, Follows, supported}
 use Rattle.question_lists.proofs.Coinductive.{HoldsAllTheSame, never_refuted}
-use Rattle.question_lists.proofs.Reached.{node_at, reached, Reached}
+use Rattle.question_lists.proofs.Inductive.{IsShown, is_shown}
+use Rattle.question_lists.proofs.Reached.{reached_goals, ReachedGoals}
 
 module _ (forms : List Form) where
   abbrev pub proves : Pair → List (Question Pair) → Type 0
@@ -25,59 +25,39 @@ module _ (forms : List Form) where
   abbrev pub refutes : Pair → List (Question Pair) → Type 0
   refutes goal failed = Refutes (needs_of forms goal) (questions_of forms goal) failed
 
-  -- the pair of a node
-  abbrev pair_at : Option (GraphNode Pair) → ℕ × ℕ
-  pair_at None = (0, 0)
-  pair_at (Some n) = (n.goal.left, n.goal.right)
+  -- the numbers of both types
+  abbrev both : Pair → ℕ × ℕ
+  both goal = (goal.left, goal.right)
 
   module _ (nodes : List (GraphNode Pair)) (root : ℕ) (goal : Pair) (proof : IsProofGraph proves nodes root goal) where
-    all : Reached proves Coinductive nodes root goal proof
-    all = reached proves Coinductive nodes root goal proof
-
-    abbrev at_place : ℕ → ℕ × ℕ
-    at_place at = pair_at (slice_get nodes at)
-
-    goal_at : (at : ℕ) (asked : Pair) → HasGoal nodes at asked → at_place at ≡ (asked.left, asked.right)
-    goal_at at asked h =
-        let w = goal_node (slice_get nodes at) asked h in ap pair_at w.1 ∙ ap (λ g. (g.left, g.right)) w.2
+    all : ReachedGoals proves Coinductive nodes root goal proof
+    all = reached_goals proves Coinductive nodes root goal proof
 
     -- the list of the pairs of all places that are reached
     abbrev pairs : List (ℕ × ℕ)
-    pairs = map at_place all.places
+    pairs = map both all.goals
 
-    edge_pair : (at : ℕ) (e : Edge Pair) (l r : ℕ) → Contains all.places at → HasEdge nodes at e
-        → question_of e ≡ asks (pair l r) → Contains pairs (l, r)
-    edge_pair at e l r here h same =
-        let g = proof.closed at e (all.are_reached at here) h in
-        let i : e.input ≡ pair l r = ap (λ q. q.goal) same in
-        subst (Contains pairs) (goal_at e.target e.input g ∙ ap (λ p. (p.left, p.right)) i)
-        (Contains-mapped at_place all.places e.target (all.stay at e here h))
-
-    supported_at : (at l r : ℕ) (n : GraphNode Pair) → Contains all.places at → slice_get nodes at ≡ Some n
-        → (n.goal.left ≡ l) × (n.goal.right ≡ r) → IsSupportedPair forms pairs l r
-    supported_at at l r n here is same =
-        let shown : proves n.goal (map question_of n.edges) = proof.is_shown at n (all.are_reached at here) is in
-        let at_goal : proves (pair l r) (map question_of n.edges) =
-        subst (λ p. proves p (map question_of n.edges)) (ap₂ {C = Pair} pair same.0 same.1) shown in
-        supported forms pairs l r (map question_of n.edges)
-        (λ x y h. let edge = Contains-map question_of n.edges (asks (pair x y)) h in
-        edge_pair at edge.0 x y here (HasEdge-from nodes at n edge.0 is edge.1) edge.2)
-        at_goal
+    supported_at : (at : ℕ) (asked : Pair) → IsShown proves Coinductive nodes root goal proof at asked
+        → IsSupportedPair forms pairs asked.left asked.right
+    supported_at at asked s =
+        supported forms pairs asked.left asked.right s.shown
+        (λ x y h. let n = s.follow (asks (pair x y)) h in
+        Contains-mapped both all.goals (pair x y) (all.has n.edge.target (pair x y) n.is_reached n.has_goal))
+        s.by_rule
 
     is_simulation : IsSimulation forms pairs
     is_simulation l r h =
-        let w = Contains-map at_place all.places (l, r) h in
-        let n = node_at proves Coinductive nodes root goal proof w.0 (all.are_reached w.0 w.1) in
-        let e : (n.0.goal.left, n.0.goal.right) ≡ (l, r) = sym (ap pair_at n.1) ∙ w.2 in
-        supported_at w.0 l r n.0 w.1 n.1 (ap (λ t. t.0) e, ap (λ t. t.1) e)
+        let w = Contains-map both all.goals (l, r) h in
+        let p = all.place_of w.0 w.1 in
+        subst (λ n. IsSupportedPair forms pairs n.0 n.1) w.2
+        (supported_at p.0 w.0 (is_shown proves Coinductive nodes root goal proof p.0 w.0 p.1 p.2))
 
     -- what is proved is below
     pub below_from : IsBelow forms goal.left goal.right
     below_from = record {
       pairs = pairs;
       is_simulation = is_simulation;
-      has_pair = subst (Contains pairs) (goal_at root goal proof.rooted)
-          (Contains-mapped at_place all.places root all.has_root);
+      has_pair = Contains-mapped both all.goals goal (all.has root goal ([], refl) proof.rooted);
     }
 
   -- the pair is below

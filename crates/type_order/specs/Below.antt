@@ -7,6 +7,5 @@ pub use Rattle.question_lists.specs.Needs.{Proves, Refutes}
 pub use Rattle.question_lists.specs.declared.needs.Needs.{Needs}
 pub use Rattle.question_lists.specs.declared.needs.Needs.TheVariants.{All, Any}
 pub use Rattle.search_context.specs.Question.{IsWithin, Overlap, Question}
-pub use Rattle.search_context.specs.Graph.{GraphNode, HasEdge, HasGoal, IsProofGraph, IsRefutationGraph, question_of}
+pub use Rattle.search_context.specs.Graph.{GraphNode, IsProofGraph, IsRefutationGraph}
 pub use Rattle.search_context.specs.Rank.{AsksOnly}
-pub use Rattle.search_context.specs.declared.context.Edge.{Edge}
