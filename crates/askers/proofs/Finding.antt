@@ -4,7 +4,7 @@ use Rattle.std.proofs.Common.{ap, inl, inr, refl, slice_get, subst, sym}
 use Rattle.std.specs.HashSet.{contains}
 use Rattle.std.specs.List.{list_any}
 use Rattle.std.specs.Cmp.{IsEquivalence}
-use Rattle.std.proofs.lemmas.List.Elements.{Contains-push, Contains-push_cases}
+use Rattle.std.proofs.lemmas.List.Elements.{Contains-append_left, Contains-push, Contains-push_cases}
 use Rattle.std.proofs.lemmas.List.Folds.{list_any-append}
 use Rattle.std.proofs.lemmas.Map.Views.{Contains-from_any}
 use Rattle.list_lemmas.proofs.Lists.{get_left}
@@ -48,6 +48,27 @@ module _ {I : Type 0} (same : I → I → Bool) where
     places = finds.places;
     found = λ goal is. finds.found goal (back goal is);
     only = λ goal it. elim (finds.only goal it) [ inl before ↦ inl before | inr is ↦ inr (there goal is) ];
+  }
+
+  -- one more of a list is found, and then all are
+  pub finds_one_more : (goals more : List I) (goal : I) (first now new : Found I) → more ≡ goals ++ goal ∷ []
+      → Finds same (λ other. Contains goals other) first now → Finds same (λ other. other ≡ goal) now new
+      → Finds same (λ other. Contains more other) first new
+  finds_one_more goals more goal first now new is so_far finds = record {
+    listed = finds.listed;
+    places = λ at other was. finds.places at other (so_far.places at other was);
+    found = λ other has. elim (Contains-push_cases goals goal other (subst (λ l. Contains l other) is has)) [
+      | inl before ↦ found_still (λ x. x ≡ goal) now new finds other (so_far.found other before)
+      | inr last ↦ finds.found other (sym last)
+    ];
+    only = λ other it. elim (finds.only other it) [
+      | inl before ↦ elim (so_far.only other before) [
+        | inl first_of ↦ inl first_of
+        | inr has ↦ inr (subst (λ l. Contains l other) (sym is) (Contains-append_left goals (goal ∷ []) other has))
+      ]
+      | inr last ↦ inr (subst (λ l. Contains l other) (sym is)
+          (subst (Contains (goals ++ goal ∷ [])) (sym last) (Contains-push goals goal)))
+    ];
   }
 
   module _ (laws : IsEquivalence same) (exact : IsExact same) where

@@ -197,23 +197,22 @@ module _ {I : Type 0} (same : I → I → Bool) where
       only = all.only;
     }
 
-    -- what is reached from one goal alone is concerned
-    module _ (changed : I) (empty first now : Found I) (none : empty.goals.items ≡ [])
-        (noted : Finds same (λ other. other ≡ changed) empty first) (all : FollowsAll same asks first now) where
-      first_is : (goal : I) → IsFound first goal → goal ≡ changed
-      first_is goal it = elim (noted.only goal it) [
+    -- what is reached from these goals alone is concerned
+    module _ (changed : List I) (empty first now : Found I) (none : empty.goals.items ≡ [])
+        (noted : Finds same (λ other. Contains changed other) empty first) (all : FollowsAll same asks first now) where
+      first_changed : (goal : I) → IsFound first goal → Contains changed goal
+      first_changed goal it = elim (noted.only goal it) [
         | inl before ↦ let has = subst (λ l. Contains l goal) none before in absurd (omega (arith, has.1))
         | inr is ↦ is
       ]
 
       reached_concerned : (goal : I) → IsReached asks first goal → IsConcerned asks changed goal
-      reached_concerned goal (there _ it) =
-          subst (IsConcerned asks changed) (sym (first_is goal it)) concerned.itself
+      reached_concerned goal (there _ it) = concerned.itself goal (first_changed goal it)
       reached_concerned goal (asker _ asked has next) =
           concerned.asker goal asked has (reached_concerned asked next)
 
       concerned_found : (goal : I) → IsConcerned asks changed goal → IsFound now goal
-      concerned_found goal concerned.itself = all.kept changed (noted.found changed refl)
+      concerned_found goal (concerned.itself _ it) = all.kept goal (noted.found goal it)
       concerned_found goal (concerned.asker _ asked has next) =
           all.closed asked goal (concerned_found asked next) has
 

@@ -42,6 +42,18 @@ impl<I: Eq + Hash + Copy> Found<I> {
         Ok(())
     }
 
+    /// These goals are found.
+    pub(crate) fn note_all(&mut self, goals: &[I]) -> Result<(), NoMemory>
+        requires exact { IsExact I.eq }
+        requires listed { AreListed I.eq self.old }
+        ensures { OnOk result (Finds I.eq (λ other. Contains goals.now other) self.old self.new) }
+    {
+        for goal in goals {
+            self.note(*goal)?;
+        }
+        Ok(())
+    }
+
     /// Finds all that ask a goal that is found.
     pub(crate) fn follow_all(&mut self, told: &Told<I>) -> Result<(), NoMemory>
         requires listed { AreListed I.eq self.old }

@@ -90,14 +90,14 @@ impl<I: Eq + Hash + Copy> Askers<I> {
         self.told.clear(goal);
     }
 
-    /// The goals that can reach this one by asking, itself among them. The time is linear in what asks them, and in the links of
-    /// these goals that no longer count.
-    pub fn concerned(&self, changed: I) -> Result<HashSet<I>, NoMemory>
+    /// The goals that can reach one of these by asking, these among them. The time is linear in how many these are, in what
+    /// asks the goals that are found, and in the links of these that no longer count.
+    pub fn concerned(&self, changed: &[I]) -> Result<HashSet<I>, NoMemory>
         ensures { IfOk result (λ concerned. (goal : I) →
-            IsTrue (contains I.eq concerned goal) ↔ IsConcerned self.now changed goal) }
+            IsTrue (contains I.eq concerned goal) ↔ IsConcerned self.now changed.now goal) }
     {
         let mut found = Found::new(self.alloc);
-        found.note(changed)?;
+        found.note_all(changed)?;
         found.follow_all(&self.told)?;
         Ok(found.into_goals())
     }

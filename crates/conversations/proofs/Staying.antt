@@ -1,11 +1,11 @@
 -- What is known stays so where the rules that it rests on do.
-use Rattle.std.proofs.Common.{◌≡◌, ◌∙◌, Bool, true, false, Contains, IsTrue, List, ap, map, refl, subst, sym}
+use Rattle.std.proofs.Common.{◌≡◌, ◌∙◌, ◌∷◌, ◌++◌, [], Bool, true, false, Contains, IsTrue, List, ap, map}
+use Rattle.std.proofs.Common.{refl, subst, sym}
 use Rattle.std.specs.Prelude.{◌↔◌}
-use Rattle.std.proofs.lemmas.List.Elements.{All-weaker}
+use Rattle.std.proofs.lemmas.List.Elements.{All-weaker, Contains-append_left, Contains-push}
 use Rattle.std.proofs.lemmas.Bool.{false≢true}
-use Rattle.list_lemmas.proofs.Members.{Contains-map, Contains-mapped}
+use Rattle.list_lemmas.proofs.Members.{Contains-map}
 use Rattle.candidate_lists.specs.Candidate.{Proves, Refutes}
-use Rattle.determined.specs.Closed.{HasProof, HasRefutation}
 use Rattle.rule_tables.specs.Candidate.{Candidate}
 use Rattle.rule_tables.specs.declared.rules.Asking.{Asking}
 use Rattle.search_context.specs.Question.{Question}
@@ -15,11 +15,12 @@ use Rattle.conversations.specs.Answer.{Lending, lent_by}
 use Rattle.candidate_lists.specs.Frame.{script_of}
 use Rattle.determined.proofs.Kept.{proof_stays, refutation_stays}
 use Rattle.conversations.specs.Below.{AreShown, AreSoundFindings, candidates_of, CxOf, Findings, Goal, IsConcerned}
-use Rattle.conversations.specs.Below.{KeepsCandidates, KeepsOtherCandidates, KeepsOtherNodes, KeepsOtherResults}
+use Rattle.conversations.specs.Below.{KeepsAllOtherCandidates, KeepsCandidates, KeepsOtherCandidates}
+use Rattle.conversations.specs.Below.{KeepsOtherNodes, KeepsOtherResults}
 use Rattle.conversations.specs.Below.{KeepsOthers, KeepsRule, NodeId, Outcome, question_of, scripts_of, Table}
 use Rattle.conversations.specs.Below.{verdicts}
-use Rattle.conversations.specs.Known.{IsKnown}
-use Rattle.open_tables.specs.Table.{asker, Asks, itself}
+use Rattle.conversations.specs.Known.{IsKnown, IsKnownSince}
+use Rattle.open_tables.specs.Table.{asker, Asks, IsAskedBy, itself}
 use Rattle.global_cache.proofs.Changed.{AreSoundFindings-changed}
 
 -- ---- goals that are gone
@@ -29,7 +30,7 @@ abbrev pub AskStaying : Table → (Goal → Bool) → Type 0
 AskStaying table is_gone =
     (goal asked : Goal) → is_gone goal ≡ false → Asks table goal asked → is_gone asked ≡ false
 
-module _ (table : Table) (changed : Goal) (is_gone : Goal → Bool)
+module _ (table : Table) (changed : List Goal) (is_gone : Goal → Bool)
     (exact : (goal : Goal) → IsTrue (is_gone goal) ↔ IsConcerned table changed goal) where
   not_gone : (goal : Goal) (gone : Bool) → is_gone goal ≡ gone → (IsConcerned table changed goal → ⊥) → gone ≡ false
   not_gone goal true is other = absurd (other ((exact goal).0 is))
@@ -39,9 +40,13 @@ module _ (table : Table) (changed : Goal) (is_gone : Goal → Bool)
   others_ask_others goal asked stays asks = not_gone asked (is_gone asked) refl
       (λ concerned. false≢true (sym stays ∙ (exact goal).1 (asker goal asked asks concerned)))
 
-  pub others_are_others : (goal : Goal) → is_gone goal ≡ false → goal ≡ changed → ⊥
-  others_are_others goal stays same =
-      false≢true (sym stays ∙ (exact goal).1 (subst (IsConcerned table changed) (sym same) itself))
+  pub others_are_others : (goal : Goal) → is_gone goal ≡ false → Contains changed goal → ⊥
+  others_are_others goal stays has = false≢true (sym stays ∙ (exact goal).1 (itself goal has))
+
+  -- nor did one before these changed
+  pub others_asked_others : (before : Table) → KeepsAllOtherCandidates changed before table → AskStaying before is_gone
+  others_asked_others before same_others goal asked stays asks = others_ask_others goal asked stays
+      (subst (λ cs. IsAskedBy cs asked) (sym (same_others goal (others_are_others goal stays))) asks)
 
 -- ---- their rules
 
@@ -160,31 +165,29 @@ module _ {A T : Type 0} (X : CxOf Lending Goal Outcome A T) (same : Goal → Goa
           (known.are_shown (lending old) refl);
     }
 
-    -- and without what is gone, where those of one goal changed
-    pub known_changes : (old mid new : Table) (changed : Goal) (is_gone : Goal → Bool)
+    -- and without what is gone, where those of some goals changed
+    pub known_changes : (old new : Table) (changed : List Goal) (is_gone : Goal → Bool)
         (found left : Findings Goal Outcome T) (shown others : List (Goal × Outcome × NodeId))
-        → IsKnown X same old found shown → KeepsCandidates old mid
-        → ((goal : Goal) → IsTrue (is_gone goal) ↔ IsConcerned mid changed goal)
-        → KeepsOthers is_gone (scripts_of mid) (scripts_of new) → KeepsOtherCandidates changed mid new
+        → IsKnown X same old found shown → KeepsAllOtherCandidates changed old new
+        → ((goal : Goal) → IsTrue (is_gone goal) ↔ IsConcerned new changed goal)
+        → KeepsOthers is_gone (scripts_of old) (scripts_of new)
         → KeepsOtherNodes is_gone found.nodes left.nodes → KeepsOtherResults same is_gone found.results left.results
         → ((before after : Lending) → KeepsRule is_gone (X.proves before) (X.proves after)
         → KeepsRule is_gone (X.refutes before) (X.refutes after) → AreShown X before shown → AreShown X after others)
         → IsKnown X same new left others
-    known_changes old mid new changed is_gone found left shown others known keeps exact kept same_others nodes results
-        stay =
-        let between = known_stays old mid found shown keeps known in
+    known_changes old new changed is_gone found left shown others known same_others exact kept nodes results stay =
         let same_kept = λ (goal : Goal) (stays : is_gone goal ≡ false). same_others goal
-        (others_are_others mid changed is_gone exact goal stays) in
-        let staying = others_ask_others mid changed is_gone exact in
+        (others_are_others new changed is_gone exact goal stays) in
+        let staying = others_asked_others new changed is_gone exact old same_others in
         record {
-          sound = AreSoundFindings-changed same (verdicts X) (scripts_of mid) (scripts_of new) is_gone found left kept
-              nodes results between.sound;
-          are_shown = λ cx is. stay (lending mid) cx
-              (by_proves is_gone (lending mid) cx
-              (keeps_proves mid new is_gone same_kept staying mid (lent_by cx) refl is))
-              (by_refutes is_gone (lending mid) cx
-              (keeps_refutes mid new is_gone same_kept staying mid (lent_by cx) refl is))
-              (between.are_shown (lending mid) refl);
+          sound = AreSoundFindings-changed same (verdicts X) (scripts_of old) (scripts_of new) is_gone found left kept
+              nodes results known.sound;
+          are_shown = λ cx is. stay (lending old) cx
+              (by_proves is_gone (lending old) cx
+              (keeps_proves old new is_gone same_kept staying old (lent_by cx) refl is))
+              (by_refutes is_gone (lending old) cx
+              (keeps_refutes old new is_gone same_kept staying old (lent_by cx) refl is))
+              (known.are_shown (lending old) refl);
         }
 
     -- and over what was found out since, by two contexts that lend the table
@@ -198,3 +201,35 @@ module _ {A T : Type 0} (X : CxOf Lending Goal Outcome A T) (same : Goal → Goa
       are_shown = λ to is. shown_by_both cx to (λ goal. ap (λ (t : Table). candidates_of t goal) (is ∙ sym lent)) more
           (shows (known.are_shown cx lent));
     }
+
+-- ---- what was known before goals changed
+
+module _ {A T : Type 0} (X : CxOf Lending Goal Outcome A T) (same : Goal → Goal → Bool) where
+  -- what is known now
+  pub since_now : (changed : List Goal) (table : Table) (found : Findings Goal Outcome T)
+      (shown : List (Goal × Outcome × NodeId)) → IsKnown X same table found shown
+      → IsKnownSince X same changed table found shown
+  since_now changed table found shown known = record { before = table; keeps = λ goal other. refl; known = known }
+
+  -- no goal changed
+  pub since_stays : (changed more : List Goal) (old new : Table) (found : Findings Goal Outcome T)
+      (shown : List (Goal × Outcome × NodeId)) → more ≡ changed → KeepsCandidates old new
+      → IsKnownSince X same changed old found shown → IsKnownSince X same more new found shown
+  since_stays changed more old new found shown is keeps since = record {
+    before = since.before;
+    keeps = λ goal other. keeps goal ∙ since.keeps goal (λ has. other (subst (λ l. Contains l goal) (sym is) has));
+    known = since.known;
+  }
+
+  -- one more did
+  pub since_one : (changed more : List Goal) (one : Goal) (old new : Table) (found : Findings Goal Outcome T)
+      (shown : List (Goal × Outcome × NodeId)) → more ≡ changed ++ one ∷ [] → KeepsOtherCandidates one old new
+      → IsKnownSince X same changed old found shown → IsKnownSince X same more new found shown
+  since_one changed more one old new found shown is keeps since = record {
+    before = since.before;
+    keeps = λ goal other. keeps goal (λ same_goal. other (subst (λ l. Contains l goal) (sym is)
+        (subst (Contains (changed ++ one ∷ [])) (sym same_goal) (Contains-push changed one))))
+        ∙ since.keeps goal (λ has. other (subst (λ l. Contains l goal) (sym is)
+        (Contains-append_left changed (one ∷ []) goal has)));
+    known = since.known;
+  }

@@ -1,7 +1,7 @@
 -- Turns that were taken in turn, what is left to read, and what was written of them.
-use Rattle.std.proofs.Common.{◌≡◌, ◌∙◌, ℕ, ◌+◌, ◌<◌, ◌≤◌, Bool, ◌&&◌, true, false, List}
+use Rattle.std.proofs.Common.{◌≡◌, ◌∙◌, ℕ, ◌+◌, Bool, ◌&&◌, true, false, List}
 use Rattle.std.proofs.Common.{[], ◌∷◌, ◌++◌, Option, None, Some}
-use Rattle.std.proofs.Common.{◌⊎◌, IfSome, Result, Ok, Err, ap, append_assoc, arith}
+use Rattle.std.proofs.Common.{IfSome, ap, append_assoc, arith}
 use Rattle.std.proofs.Common.{inl, inr, length, length-append, map}
 use Rattle.std.proofs.Common.{refl, subst, sym, take, append-nil}
 use Rattle.std.specs.Prelude.{◌==◌, if◌then◌else◌}

@@ -9,7 +9,7 @@ pub use Rattle.global_cache.specs.Changed.{is_among, KeepsOtherNodes, KeepsOther
 pub use Rattle.global_cache.specs.Findings.{AreSoundFindings, Findings}
 pub use Rattle.global_cache.specs.Sound.{IsSoundCache}
 pub use Rattle.open_tables.specs.Changes.{Add, Change, Clear, HasChange, HasNoChange, IsOpenTableOf}
-pub use Rattle.open_tables.specs.Kept.{KeepsCandidates, KeepsNames, KeepsOtherCandidates}
+pub use Rattle.open_tables.specs.Kept.{KeepsAllOtherCandidates, KeepsCandidates, KeepsNames, KeepsOtherCandidates}
 pub use Rattle.open_tables.specs.Table.{candidates_of, IsConcerned, name_of, scripts_of, Table}
 pub use Rattle.open_tables.specs.declared.delegate.OpenRules.{OpenRules}
 pub use Rattle.rule_tables.specs.Rules.{question_of}

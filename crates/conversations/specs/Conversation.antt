@@ -1,8 +1,8 @@
 -- A conversation: lines are taken one after another, each by the rules as they stand before it.
 use Rattle.std.specs.Prelude.{◌≡◌, ◌+◌, ℕ, Bool, true, false, IfSome, List, [], ◌∷◌, ◌++◌, codes, decimal, length, map}
-use Rattle.std.specs.Prelude.{Option, None, Some, Result, take, ⊤}
+use Rattle.std.specs.Prelude.{Option, Result, take, ⊤}
 use Rattle.std.specs.Io.KnownBytes.{Appends}
-use Rattle.std.specs.List.{filter_map, flat_map, list_all}
+use Rattle.std.specs.List.{flat_map, list_all}
 use Rattle.answer_lines.specs.Goals.{line_told}
 use Rattle.conversation_lines.specs.Grammar.{Forget, IsMalformed, OfTable, Says}
 use Rattle.line_texts.specs.Lines.{lines_of}

@@ -1,11 +1,11 @@
 -- What is known beside the rules, and what a line does to both.
 use Rattle.std.specs.Prelude.{◌≡◌, ◌⊎◌, ℕ, Bool, List, ◌++◌, Option}
-use Rattle.std.specs.Io.KnownBytes.{Appends, Keeps}
+use Rattle.std.specs.Io.KnownBytes.{Keeps}
 use Rattle.conversation_lines.specs.Taken.{TakesLine}
 use Rattle.line_texts.specs.Writing.{AppendsBeginning}
 use Rattle.conversations.specs.Answer.{Lending, lent_by}
 use Rattle.conversations.specs.Below.{AreShown, AreSoundFindings, Change, CxOf, Findings, Goal, IsOpenTableOf}
-use Rattle.conversations.specs.Below.{NodeId, Outcome, scripts_of, Table, verdicts}
+use Rattle.conversations.specs.Below.{KeepsAllOtherCandidates, NodeId, Outcome, scripts_of, Table, verdicts}
 use Rattle.conversations.specs.Conversation.{Came, changes_by, is_fine, told_of, Turn}
 
 -- What was found out is sound by the rules of the table, and what was shown is shown by them.
@@ -13,6 +13,14 @@ pub record IsKnown {A T : Type 0} (X : CxOf Lending Goal Outcome A T) (same : Go
     (table : Table) (found : Findings Goal Outcome T) (shown : List (Goal × Outcome × NodeId)) : Type 0 where
   pub sound : AreSoundFindings same (verdicts X) (scripts_of table) found
   pub are_shown : (cx : Lending) → lent_by cx ≡ table → AreShown X cx shown
+
+-- It was known so of a table that differs in the rules of these goals alone.
+pub record IsKnownSince {A T : Type 0} (X : CxOf Lending Goal Outcome A T) (same : Goal → Goal → Bool)
+    (changed : List Goal) (table : Table) (found : Findings Goal Outcome T)
+    (shown : List (Goal × Outcome × NodeId)) : Type 0 where
+  pub before : Table
+  pub keeps : KeepsAllOtherCandidates changed before table
+  pub known : IsKnown X same before found shown
 
 -- `MayCome` says what may come of a line, by the changes that the rules have.
 module _ (MayCome : List Change → List ℕ → Came → Type 0) where

@@ -2,7 +2,7 @@
 ghost use Rattle.std.specs.Prelude.{◌≡◌, ◌≤◌, ℕ, List, [], All, IfOk, OnErr, OnOk, Some, length, map};
 ghost use Rattle.conversations.specs.Answer.{IsAnswer};
 ghost use Rattle.conversations.specs.Below.{Add, Change, Clear, HasChange, HasNoChange, IsOpenTableOf, name_of};
-ghost use Rattle.conversations.specs.Known.{IsKnown};
+ghost use Rattle.conversations.specs.Known.{IsKnown, IsKnownSince};
 ghost use Rattle.rule_tables.specs.Question.{HasShortName, named};
 
 use answer_lines::goals::Told;
@@ -30,19 +30,23 @@ pub struct Conversation {
     table: OpenTable,
     found: Findings<Goal, Outcome, ()>,
     shown: ShownNodes,
-    /// Whether a goal was asked. Before that there is nothing to forget, and a change need not find out what rests on it.
+    /// Whether a goal was asked. Before that there is nothing to forget.
     was_asked: bool,
+    /// The goals whose rules changed since one was asked. What is known is that of the rules before, and what rests on these is
+    /// forgotten when one is asked next, in one walk for them all.
+    changed: Vec<Goal>,
 }
 
 impl Model for Conversation {
     ghost use Rattle.conversations.specs.Below.{Table};
-    ghost use Rattle.conversations.specs.Known.{IsKnown};
+    ghost use Rattle.conversations.specs.Known.{IsKnownSince};
 
     ghost Value = { Table };
 
     ghost view = { λ c. c.table };
 
-    ghost invariant = { λ c. IsKnown ⟦<Lending<'static> as Cx>⟧ ⟦<Goal as PartialEq>⟧.eq c.table c.found c.shown };
+    ghost invariant = { λ c. IsKnownSince ⟦<Lending<'static> as Cx>⟧ ⟦<Goal as PartialEq>⟧.eq c.changed.items c.table
+        c.found c.shown };
 }
 
 impl Conversation {
@@ -56,6 +60,7 @@ impl Conversation {
             found: Findings::new(alloc),
             shown: ShownNodes::new(alloc),
             was_asked: false,
+            changed: Vec::new(alloc),
         }
     }
 
@@ -64,8 +69,8 @@ impl Conversation {
         self.alloc
     }
 
-    /// One more rule of the name, behind its others. What rests on this is forgotten. `NoMemory` changes no rule, and nothing
-    /// is forgotten.
+    /// One more rule of the name, behind its others. What rests on this is forgotten before the next answer. `NoMemory` changes
+    /// no rule.
     pub fn add_rule(
         &mut self,
         is_marked: bool,
@@ -85,14 +90,12 @@ impl Conversation {
             self.shown = ShownNodes::new(self.alloc);
             return Ok(());
         }
-        let gone = self.table.concerned(goal)?;
+        self.changed.push(goal)?;
         self.table.add_rule(goal, is_marked, questions)?;
-        self.found.forget(&gone);
-        self.shown.forget::<Lending<'_>>(&gone);
         Ok(())
     }
 
-    /// The rules of the name go, with what rests on them. `NoMemory` changes no rule, and nothing is forgotten.
+    /// The rules of the name go. What rests on them is forgotten before the next answer. `NoMemory` changes no rule.
     pub fn forget(&mut self, name: &[u8]) -> Result<(), NoMemory>
         requires { length name.now ≤ 16 }
         ensures forgotten { OnOk result (HasChange (Clear name.now) self.old self.new) }
@@ -105,16 +108,14 @@ impl Conversation {
             self.shown = ShownNodes::new(self.alloc);
             return Ok(());
         }
-        let gone = self.table.concerned(goal)?;
+        self.changed.push(goal)?;
         self.table.clear(goal);
-        self.found.forget(&gone);
-        self.shown.forget::<Lending<'_>>(&gone);
         Ok(())
     }
 
     /// Asks the goal of this name at this depth, by the rules as they stand, and checks the graph of a definite answer. A name
-    /// that was never mentioned is a goal without rules. `NoMemory` where there was none for such a name; else what the
-    /// question came to, which may be a fault. No rule changes.
+    /// that was never mentioned is a goal without rules. `NoMemory` where there was none for such a name, or to find out what
+    /// rests on changes; else what the question came to, which may be a fault. No rule changes.
     pub fn ask(
         &mut self,
         depth: usize,
@@ -127,12 +128,42 @@ impl Conversation {
         ensures table { HasNoChange self.old self.new }
     {
         let goal = self.table.goal_named(name)?;
+        forget_changed(
+            &self.table,
+            self.changed.as_slice(),
+            &mut self.found,
+            &mut self.shown,
+        )?;
+        self.changed.clear();
         self.was_asked = true;
         let found = replace(&mut self.found, Findings::new(self.alloc));
         let (found, came) = ask_over(self.alloc, &self.table, found, &mut self.shown, depth, goal);
         self.found = found;
         Ok(came)
     }
+}
+
+// Forgets what rests on the rules of the goals that changed. `NoMemory` forgets nothing.
+fn forget_changed(
+    table: &OpenTable,
+    changed: &[Goal],
+    found: &mut Findings<Goal, Outcome, ()>,
+    shown: &mut ShownNodes,
+) -> Result<(), NoMemory>
+    requires known { IsKnownSince ⟦<Lending<'static> as Cx>⟧ ⟦<Goal as PartialEq>⟧.eq changed.now table.now
+        found.old shown.old }
+    ensures known { OnOk result (IsKnown ⟦<Lending<'static> as Cx>⟧ ⟦<Goal as PartialEq>⟧.eq table.now
+        found.new shown.new) }
+    ensures kept { OnErr result (found.new ≡ found.old) }
+    ensures kept_shown { OnErr result (shown.new ≡ shown.old) }
+{
+    if changed.is_empty() {
+        return Ok(());
+    }
+    let gone = table.concerned(changed)?;
+    found.forget(&gone);
+    shown.forget::<Lending<'_>>(&gone);
+    Ok(())
 }
 
 // Asks the goal over what is known by the rules of the table. Returns what was found out then, and what it came to.

@@ -12,7 +12,8 @@ use answer_lines::goals::write_line;
 use conversation_lines::{LineEnd, Said, said_by};
 use delegate_parts::Outcome;
 use open_tables::{OpenDelegate, OpenTable};
-use rule_tables::{Goal, Line, LineFault, Question, Stop};
+use program_ends::Stop;
+use rule_tables::{BadLine, Goal, Line, LineFault, Question};
 use search_context::context::{Cx, Delegate, NoMemory};
 use std::io::Write;
 use table_runs::came_fine;
@@ -30,7 +31,7 @@ impl TakesLines for Conversation {
         end: LineEnd,
         line: &[u8],
         told: &mut Vec<u8>,
-    ) -> Result<bool, Stop> {
+    ) -> Result<bool, Stop<BadLine>> {
         if end.is_whole {
             take_line(self, number, line, told)
         } else {
@@ -45,7 +46,7 @@ fn take_line(
     number: u64,
     line: &[u8],
     told: &mut Vec<u8>,
-) -> Result<bool, Stop>
+) -> Result<bool, Stop<BadLine>>
     ensures took { IfOk result (Takes (MayCome ⟦<OpenDelegate<&'static OpenTable> as Delegate>⟧
         ⟦<Lending<'static> as Cx>⟧ ⟦<Goal as PartialEq>⟧.eq ⟦<Outcome as PartialEq>⟧.eq)
         known.old known.new number line.now told.new.items) }
@@ -80,7 +81,7 @@ fn add_rule(
     name: &[u8],
     questions: &[Question<'_>],
     told: &mut Vec<u8>,
-) -> Result<bool, Stop>
+) -> Result<bool, Stop<BadLine>>
     requires name { length name.now ≤ 16 }
     requires questions { All HasShortName questions.now }
     ensures took { (line : List ℕ) → Says line (OfTable (table.Rule is_marked name.now (map named questions.now))) →
@@ -103,7 +104,7 @@ fn ask(
     depth: usize,
     name: &[u8],
     told: &mut Vec<u8>,
-) -> Result<bool, Stop>
+) -> Result<bool, Stop<BadLine>>
     requires name { length name.now ≤ 16 }
     ensures took { (line : List ℕ) → Says line (OfTable (table.Ask depth name.now)) →
         IfOk result (Takes (MayCome ⟦<OpenDelegate<&'static OpenTable> as Delegate>⟧
@@ -127,7 +128,7 @@ fn forget(
     number: u64,
     name: &[u8],
     told: &mut Vec<u8>,
-) -> Result<bool, Stop>
+) -> Result<bool, Stop<BadLine>>
     requires name { length name.now ≤ 16 }
     ensures took { (line : List ℕ) → Says line (Forget name.now) →
         IfOk result (Takes (MayCome ⟦<OpenDelegate<&'static OpenTable> as Delegate>⟧
@@ -143,7 +144,7 @@ fn forget(
 }
 
 // Puts into the list that the line of this number is malformed, which is not fine.
-fn tell_malformed(told: &mut Vec<u8>, number: u64) -> Result<bool, Stop>
+fn tell_malformed(told: &mut Vec<u8>, number: u64) -> Result<bool, Stop<BadLine>>
     ensures words { OnOk result (told.new.items ≡ words_of number Malformed) }
     ensures not_fine { IfOk result (λ fine. fine ≡ false) }
     ensures fault { IfErr result (λ stop. stop ≡ Stop.Memory) }
@@ -154,7 +155,7 @@ fn tell_malformed(told: &mut Vec<u8>, number: u64) -> Result<bool, Stop>
 }
 
 // Puts into the list that memory was refused for the line of this number, which is not fine.
-fn tell_refused(told: &mut Vec<u8>, number: u64) -> Result<bool, Stop>
+fn tell_refused(told: &mut Vec<u8>, number: u64) -> Result<bool, Stop<BadLine>>
     ensures words { OnOk result (told.new.items ≡ words_of number Refused) }
     ensures not_fine { IfOk result (λ fine. fine ≡ false) }
     ensures fault { IfErr result (λ stop. stop ≡ Stop.Memory) }

@@ -9,7 +9,8 @@ ghost use Rattle.line_texts.specs.Writing.{AppendsBeginning};
 
 use conversation_lines::{LineEnd, next_line};
 use line_texts::{Flush, write_bytes};
-use rule_tables::Stop;
+use program_ends::Stop;
+use rule_tables::BadLine;
 use std::alloc::Global;
 use std::io::{BufRead, BufReader, Read};
 
@@ -32,7 +33,7 @@ pub(super) trait TakesLines: Drop {
         end: LineEnd,
         line: &[u8],
         told: &mut Vec<u8>,
-    ) -> Result<bool, Stop>
+    ) -> Result<bool, Stop<BadLine>>
         ensures took { (bytes : List ℕ) → (end.is_whole ≡ true → line.now ≡ bytes) →
             IfOk result (Takes may_come (table self.old) (table self.new) number bytes told.new.items) }
         ensures fault { IfErr result (λ stop. stop ≡ Stop.Memory) };
@@ -45,7 +46,7 @@ pub(super) fn hold<K: TakesLines, R: Read + Drop, W: Flush>(
     mut known: K,
     input: R,
     out: &mut W,
-) -> Result<bool, Stop>
+) -> Result<bool, Stop<BadLine>>
     requires { IsOpenTableOf [] (K.table known) }
     ensures held { IfOk result (IsHeld K.may_come
         (R.remaining input) (W.contents out.old) (W.contents out.new)) }
@@ -75,7 +76,7 @@ pub(super) fn hold<K: TakesLines, R: Read + Drop, W: Flush>(
 }
 
 // The reader with a buffer, of which nothing was read yet.
-fn buffered<R: Read + Drop>(alloc: Global, input: R) -> Result<BufReader<R>, Stop>
+fn buffered<R: Read + Drop>(alloc: Global, input: R) -> Result<BufReader<R>, Stop<BadLine>>
     ensures unread { IfOk result (λ reader. reader_remaining R.remaining reader ≡ R.remaining input) }
     ensures fault { IfErr result (λ stop. stop ≡ Stop.Memory) }
 {
@@ -104,7 +105,7 @@ fn take_turn<K: TakesLines, R: BufRead, W: Flush>(
     number: u64,
     told: &mut Vec<u8>,
     out: &mut W,
-) -> Result<TurnEnd, Stop>
+) -> Result<TurnEnd, Stop<BadLine>>
     ensures turned { IfOk result (λ end. Turned K.may_come
         (Appends (W.contents out.old) (W.contents out.new)) (R.remaining input.old) (R.remaining input.new)
         (K.table known.old) (K.table known.new) number end.is_fine end.is_last) }
@@ -126,7 +127,7 @@ fn take_turn<K: TakesLines, R: BufRead, W: Flush>(
 }
 
 // Writes what is told of a line, at once.
-fn tell<W: Flush>(out: &mut W, told: &[u8]) -> Result<(), Stop>
+fn tell<W: Flush>(out: &mut W, told: &[u8]) -> Result<(), Stop<BadLine>>
     ensures written { OnOk result (Appends (W.contents out.old) (W.contents out.new) told.now) }
     ensures flushed { OnOk result (W.is_flushed out.new) }
     ensures beginning { OnErr result

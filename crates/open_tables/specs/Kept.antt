@@ -1,5 +1,5 @@
 -- What stays of a table as it changes.
-use Rattle.std.specs.Prelude.{◌≡◌, ℕ, List, [], ◌∷◌, ◌++◌, Some, length}
+use Rattle.std.specs.Prelude.{◌≡◌, ℕ, List, [], ◌∷◌, ◌++◌, Contains, Some, length}
 use Rattle.rule_tables.specs.Candidate.{Candidate}
 use Rattle.rule_tables.specs.declared.rules.Goal.{Goal}
 use Rattle.open_tables.specs.Table.{Table, candidates_at, candidates_of, name_of}
@@ -16,6 +16,11 @@ KeepsCandidates old new = (goal : Goal) → candidates_of new goal ≡ candidate
 abbrev pub KeepsOtherCandidates : Goal → Table → Table → Type 0
 KeepsOtherCandidates changed old new =
     (goal : Goal) → (goal ≡ changed → ⊥) → candidates_of new goal ≡ candidates_of old goal
+
+-- each goal but these has
+abbrev pub KeepsAllOtherCandidates : List Goal → Table → Table → Type 0
+KeepsAllOtherCandidates changed old new =
+    (goal : Goal) → (Contains changed goal → ⊥) → candidates_of new goal ≡ candidates_of old goal
 
 -- the goal has one more candidate, behind the others, and nothing else is another
 pub record AddsCandidate (goal : Goal) (candidate : Candidate) (old new : Table) : Type 0 where

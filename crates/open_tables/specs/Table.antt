@@ -54,9 +54,9 @@ pub record IsAskedBy (candidates : List Candidate) (asked : Goal) : Type 0 where
 abbrev pub Asks : Table → Goal → Goal → Type 0
 Asks table goal asked = IsAskedBy (candidates_of table goal) asked
 
--- the goal is the one that changes, or asks one that is concerned
-pub data IsConcerned (table : Table) (changed : Goal) : Goal → Type 0 where
-  itself : IsConcerned table changed changed
+-- the goal is one of those that change, or asks one that is concerned
+pub data IsConcerned (table : Table) (changed : List Goal) : Goal → Type 0 where
+  itself : (goal : Goal) → Contains changed goal → IsConcerned table changed goal
   asker : (goal asked : Goal) → Asks table goal asked → IsConcerned table changed asked
       → IsConcerned table changed goal
 

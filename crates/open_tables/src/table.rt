@@ -9,7 +9,7 @@ ghost use Rattle.rule_tables.specs.Question.{HasShortName, named};
 ghost use Rattle.rule_tables.specs.Rules.{question_of};
 ghost use Rattle.rule_tables.specs.Table.{AreAsked};
 ghost use Rattle.open_tables.specs.Changes.{Add, Clear, HasChange, HasNoChange, IsOpenTableOf};
-ghost use Rattle.open_tables.specs.Kept.{AddsCandidate, ClearsAt, ClearsCandidates, KeepsCandidates, KeepsNames, KeepsOtherCandidates};
+ghost use Rattle.open_tables.specs.Kept.{AddsCandidate, ClearsAt, ClearsCandidates, KeepsAllOtherCandidates, KeepsCandidates, KeepsNames, KeepsOtherCandidates};
 ghost use Rattle.open_tables.specs.Table.{candidate_of, candidates_at, candidates_in, candidates_of, most_steps, name_of, names_of, scripts_of, AreFewer, IsConcerned, Table};
 
 use askers::Askers;
@@ -191,14 +191,15 @@ impl OpenTable {
         clear_at(&mut self.ways, goal.number() as usize);
     }
 
-    /// The goals that a change of this one concerns, which are those that can reach it by asking, itself among them. What was
-    /// found of all others is as right after the change. The time is linear in what asks them, and in what asked them once and
-    /// was not let go yet.
-    pub fn concerned(&self, changed: Goal) -> Result<HashSet<Goal>, NoMemory>
+    /// The goals that a change of these concerns, which are those that can reach one of them by asking, these among them. What
+    /// was found of all others before these changed is as right after that. The time is linear in how many these are, in what
+    /// asks the goals that are found, and in what asked them once and was not let go yet.
+    pub fn concerned(&self, changed: &[Goal]) -> Result<HashSet<Goal>, NoMemory>
         ensures exact { IfOk result (λ gone. (goal : Goal) →
-            IsTrue (contains ⟦<Goal as PartialEq>⟧.eq gone goal) ↔ IsConcerned self.now changed goal) }
-        ensures keeps { IfOk result (λ gone. (new : Table) → KeepsOtherCandidates changed self.now new →
-            KeepsOthers (is_among ⟦<Goal as PartialEq>⟧.eq gone.keys) (scripts_of self.now) (scripts_of new)) }
+            IsTrue (contains ⟦<Goal as PartialEq>⟧.eq gone goal) ↔ IsConcerned self.now changed.now goal) }
+        ensures keeps { IfOk result (λ gone. (before after : Table) →
+            KeepsAllOtherCandidates changed.now before self.now → KeepsAllOtherCandidates changed.now self.now after →
+            KeepsOthers (is_among ⟦<Goal as PartialEq>⟧.eq gone.keys) (scripts_of before) (scripts_of after)) }
     {
         self.askers.concerned(changed)
     }

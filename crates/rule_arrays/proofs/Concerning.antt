@@ -6,7 +6,8 @@ use Rattle.std.proofs.lemmas.Bool.{cases_lt}
 use Rattle.std.proofs.lemmas.Option.{slice_get_past}
 use Rattle.rule_arrays.specs.Askers.{AreAskers}
 use Rattle.rule_arrays.specs.Changes.{Asks, IsAskedBy, IsChanged, IsConcerned, asks, changed}
-use Rattle.rule_arrays.specs.Found.{FollowsAll, IsFound, IsReached, asker, there}
+use Rattle.rule_arrays.specs.Found.{CanReach, FindsAskers, FollowsAll, IsFound, IsReached, asker, itself, there}
+use Rattle.rule_arrays.specs.Found as reach
 use Rattle.rule_arrays.specs.Table.{Table, candidates_by, candidates_of}
 use Rattle.rule_arrays.specs.declared.changes.askers.Askers.{Askers}
 use Rattle.rule_arrays.specs.declared.changes.found.Found.{Found}
@@ -48,20 +49,63 @@ module _ (old new : Table) (count : ℕ) (few : length old.goals ≤ count) (eno
   pub concerned_first : (goal : ℕ) → IsFound first goal → IsConcerned old new goal
   concerned_first goal found = changed goal ((exact goal).0 found).1
 
-  module _ (askers : Askers) (are : AreAskers (λ asked goal. (goal < count) × Asks new goal asked) count askers)
-      (found : Found) (follows : FollowsAll askers first found) where
-    reached_concerned : (goal : ℕ) → IsReached askers first goal → IsConcerned old new goal
-    reached_concerned goal (there _ it) = concerned_first goal it
-    reached_concerned goal (asker _ asked it next) =
-        asks goal asked (are.only asked goal it).1 (reached_concerned asked next)
+  module _ (found : Found) (finds : FindsAskers new count first found) where
+    reached_concerned : (goal : ℕ) → CanReach new first goal → IsConcerned old new goal
+    reached_concerned goal (itself _ it) = concerned_first goal it
+    reached_concerned goal (reach.asks _ asked it next) = asks goal asked it (reached_concerned asked next)
 
     concerned_found : (goal : ℕ) → IsConcerned old new goal → IsFound found goal
     concerned_found goal (changed _ it) =
-        follows.kept goal ((exact goal).1 (changed_within old new goal count few enough it, it))
+        finds.kept goal ((exact goal).1 (changed_within old new goal count few enough it, it))
     concerned_found goal (asks _ asked it next) =
-        follows.closed asked goal (concerned_found asked next)
-        (are.all asked goal (concerned_within old new asked count few enough next)
-        (asker_within new goal asked count enough it, it))
+        finds.closed asked goal (concerned_found asked next) (concerned_within old new asked count few enough next) it
 
     pub all_found : (goal : ℕ) → IsFound found goal ↔ IsConcerned old new goal
-    all_found goal = (λ it. reached_concerned goal (follows.only goal it), concerned_found goal)
+    all_found goal = (λ it. reached_concerned goal (finds.only goal it), concerned_found goal)
+
+-- ---- who can reach what was found
+
+module _ (table : Table) (count : ℕ) (enough : length table.goals ≤ count) where
+  -- the askers of the first goals are followed
+  module _ (first : ℕ) (askers : Askers)
+      (are : AreAskers (λ asked goal. (goal < count) × Asks table goal asked) first askers) (old new : Found)
+      (follows : FollowsAll askers old new) where
+    can_reach : (goal : ℕ) → IsReached askers old goal → CanReach table old goal
+    can_reach goal (there _ it) = itself goal it
+    can_reach goal (asker _ asked it next) = reach.asks goal asked (are.only asked goal it).1 (can_reach asked next)
+
+    pub askers_found : FindsAskers table first old new
+    askers_found = record {
+      listed = follows.listed;
+      kept = follows.kept;
+      closed = λ goal one it less asks_it.
+          follows.closed goal one it
+          (are.all goal one less (asker_within table one goal count enough asks_it, asks_it));
+      only = λ goal it. can_reach goal (follows.only goal it);
+    }
+
+  -- none that is found is further on
+  pub all_near : (first : ℕ) (old new : Found) → FindsAskers table first old new
+      → ((goal : ℕ) → IsFound new goal → goal < first) → FindsAskers table count old new
+  all_near first old new finds within = record {
+    listed = finds.listed;
+    kept = finds.kept;
+    closed = λ goal one it _ asks_it. finds.closed goal one it (within goal it) asks_it;
+    only = finds.only;
+  }
+
+  reach_further : (old now : Found) → ((goal : ℕ) → IsFound now goal → CanReach table old goal) → (goal : ℕ)
+      → CanReach table now goal → CanReach table old goal
+  reach_further old now only goal (itself _ it) = only goal it
+  reach_further old now only goal (reach.asks _ asked it next) =
+      reach.asks goal asked it (reach_further old now only asked next)
+
+  -- some is, and then all are followed
+  pub then_all : (first : ℕ) (old now new : Found) → FindsAskers table first old now → FindsAskers table count now new
+      → FindsAskers table count old new
+  then_all first old now new near far = record {
+    listed = far.listed;
+    kept = λ goal it. far.kept goal (near.kept goal it);
+    closed = far.closed;
+    only = λ goal it. reach_further old now near.only goal (far.only goal it);
+  }

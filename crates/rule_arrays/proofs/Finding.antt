@@ -3,12 +3,14 @@ use Rattle.std.proofs.Common.{◌≡◌, ◌≢◌, ◌∙◌, ◌+◌, ◌<◌,
 use Rattle.std.proofs.Common.{Some, ap, arith}
 use Rattle.std.proofs.Common.{cond, eq-eqb, ne_eqb, false, get_or, inl, inr, length, nat_eq, not, refl}
 use Rattle.std.proofs.Common.{slice_get, subst, sym, true}
-use Rattle.std.proofs.Common.{None, Option, option_copied, suc, zero}
+use Rattle.std.proofs.Common.{Equal, Greater, Less, nat_cmp, None, Option, Ordering, option_copied, suc, zero}
+use Rattle.std.specs.Ordering.{is_le, is_lt, ord_max}
 use Rattle.std.specs.HashSet.{contains}
 use Rattle.std.specs.List.{list_any}
 use Rattle.std.proofs.lemmas.Bool.{cases_eq}
 use Rattle.std.proofs.lemmas.List.Elements.{Contains-push, Contains-push_cases}
 use Rattle.std.proofs.lemmas.List.Folds.{list_any-append}
+use Rattle.std.proofs.lemmas.Map.Keys.{ge_from_not_lt, le_from_is_le}
 use Rattle.std.proofs.lemmas.Map.Views.{Contains-from_any, exact_unsigned_eq}
 use Rattle.std.proofs.lemmas.Option.{slice_get-get_or, slice_get_past, slice_get_read, slice_get_within}
 use Rattle.std.specs.Slice.{IsItemAt}
@@ -260,3 +262,17 @@ module _ (IsNew : ℕ → Type 0) where
       | inr apart ↦ let other : goal ≢ place = apart in (exact goal).1 (omega (arith, it.0), it.1)
     ]),
   )
+
+lt_is_le : (o : Ordering) → is_lt o ≡ true → is_le o ≡ true
+lt_is_le Less is = refl
+lt_is_le Equal is = refl
+lt_is_le Greater is = is
+
+-- the greater one of two
+pub greatest : (a b most : ℕ) → most ≡ ord_max nat_cmp a b → (a ≤ most) × (b ≤ most)
+greatest a b most is = by (is_lt (nat_cmp b a)) refl is
+  where
+    by : (less : Bool) → is_lt (nat_cmp b a) ≡ less → most ≡ cond less a b → (a ≤ most) × (b ≤ most)
+    by true e same =
+        let l = le_from_is_le b a (lt_is_le (nat_cmp b a) e) in (omega (arith, same), omega (arith, same, l))
+    by false e same = let l = ge_from_not_lt b a e in (omega (arith, same, l), omega (arith, same))

@@ -1,8 +1,10 @@
 -- Goals that are found from some on.
-use Rattle.std.specs.Prelude.{◌≡◌, ◌⊎◌, ℕ, Contains, Some, nat_eq, slice_get}
+use Rattle.std.specs.Prelude.{◌≡◌, ◌<◌, ◌⊎◌, ℕ, Contains, Some, nat_eq, slice_get}
 use Rattle.std.specs.List.{list_any}
 use Rattle.std.specs.HashSet.{contains}
 use Rattle.rule_arrays.specs.Askers.{HasAsker}
+use Rattle.rule_arrays.specs.Changes.{Asks}
+use Rattle.rule_arrays.specs.Table.{Table}
 use Rattle.rule_arrays.specs.declared.changes.askers.Askers.{Askers}
 use Rattle.rule_arrays.specs.declared.changes.found.Found.{Found}
 
@@ -31,3 +33,15 @@ pub record FollowsAll (askers : Askers) (old new : Found) : Type 0 where
   pub kept : (goal : ℕ) → IsFound old goal → IsFound new goal
   pub closed : (goal asker : ℕ) → IsFound new goal → HasAsker askers goal asker → IsFound new asker
   pub only : (goal : ℕ) → IsFound new goal → IsReached askers old goal
+
+-- the goal was found, or asks one that can reach such a goal
+pub data CanReach (table : Table) (found : Found) : ℕ → Type 0 where
+  itself : (goal : ℕ) → IsFound found goal → CanReach table found goal
+  asks : (goal asked : ℕ) → Asks table goal asked → CanReach table found asked → CanReach table found goal
+
+-- Who asks one of the first so many goals that is found is found, and nothing else is but what can reach what was.
+pub record FindsAskers (table : Table) (first : ℕ) (old new : Found) : Type 0 where
+  pub listed : AreListed new
+  pub kept : (goal : ℕ) → IsFound old goal → IsFound new goal
+  pub closed : (goal asker : ℕ) → IsFound new goal → goal < first → Asks table asker goal → IsFound new asker
+  pub only : (goal : ℕ) → IsFound new goal → CanReach table old goal

@@ -1,9 +1,9 @@
 //! Rows that change: which goals that concerns.
-ghost use Rattle.std.specs.Prelude.{◌≡◌, ◌<◌, ◌≤◌, ◌^◌, ◌↔◌, ℕ, IfOk, IsTrue, length};
+ghost use Rattle.std.specs.Prelude.{◌≡◌, ◌<◌, ◌≤◌, ◌^◌, ◌↔◌, ℕ, IfOk, IsTrue, OnOk, length};
 ghost use Rattle.std.specs.HashSet.{contains};
 ghost use Rattle.rule_arrays.specs.Changes.{IsChanged, IsConcerned};
 ghost use Rattle.rule_arrays.specs.Compared.{table_in};
-ghost use Rattle.rule_arrays.specs.Found.{AreListed, IsFound};
+ghost use Rattle.rule_arrays.specs.Found.{AreListed, FindsAskers, IsFound};
 
 mod askers;
 mod compared;
@@ -25,7 +25,8 @@ const MOST: usize = 1 << 32;
 ///
 /// Candidates are compared by their marks and questions, in order, wherever their rows stand. A goal that one of the tables has
 /// not has no candidates there. The time is linear in the goals of both tables and in their candidates and questions, of which
-/// those that goals share count for each. `NoMemory` where a growth was refused, or 32 bits are too few to count the goals.
+/// those that goals share count for each. `NoMemory` where a growth was refused, or 32 bits are too few to count the goals, or
+/// what they ask.
 pub fn concerned<O: LendsArrays, N: LendsArrays>(
     alloc: Global,
     old: O,
@@ -58,10 +59,56 @@ fn found_from(alloc: Global, old: Arrays<'_>, new: Arrays<'_>) -> Result<Found, 
     let count = goals_in(old, new)?;
     let mut found = changed_goals(alloc, old, new, count)?;
     if !found.is_empty() {
-        let askers = Askers::new(alloc, new, count)?;
-        found.follow_all(&askers)?;
+        find_askers(alloc, new, count, &mut found)?;
     }
     Ok(found)
+}
+
+// Finds all that can reach one of the goals that are found. Who asks a goal mostly stands near it or before it. So first goals
+// further on are left out, of which nobody wants to know who asks them if none is found.
+fn find_askers(
+    alloc: Global,
+    rows: Arrays<'_>,
+    count: usize,
+    found: &mut Found,
+) -> Result<(), NoMemory>
+    requires listed { AreListed found.old }
+    requires few { count ≤ 2 ^ 32 }
+    requires enough { length rows.goals.now ≤ count }
+    ensures { OnOk result (FindsAskers (table_in rows.entry) count found.old found.new) }
+{
+    let near = near(found.last(), count);
+    find_askers_of(alloc, rows, count, near, found)?;
+    if (found.last() as usize) < near {
+        return Ok(());
+    }
+    find_askers_of(alloc, rows, count, count, found)?;
+    Ok(())
+}
+
+// So many of the goals are the first ones up to twice as far as this one, and an eighth of all.
+fn near(goal: u32, count: usize) -> usize
+    ensures { result ≤ count }
+{
+    (goal as usize * 2 + count / 8).min(count)
+}
+
+// Finds all of so many goals that can reach one of these goals by such as are among the first.
+fn find_askers_of(
+    alloc: Global,
+    rows: Arrays<'_>,
+    count: usize,
+    first: usize,
+    found: &mut Found,
+) -> Result<(), NoMemory>
+    requires listed { AreListed found.old }
+    requires few { count ≤ 2 ^ 32 }
+    requires enough { length rows.goals.now ≤ count }
+    ensures { OnOk result (FindsAskers (table_in rows.entry) first found.old found.new) }
+{
+    let askers = Askers::new(alloc, rows, count, first)?;
+    found.follow_all(&askers)?;
+    Ok(())
 }
 
 // How many goals there are in the longer of both lists, if 32 bits are enough to count them.

@@ -14,25 +14,31 @@ use std::alloc::Global;
 pub(super) struct Link {
     pub(super) asker: u32,
     /// Where the link of an earlier asker of the same goal is: 1 more than its place, and 0 where there is none.
-    pub(super) earlier: usize,
+    pub(super) earlier: u32,
 }
 
-/// The goals that ask each goal, in a chain for each that is asked.
+/// The goals that ask each of the first so many goals, in a chain for each that is asked. Places are of 32 bits, so that chains take
+/// half the memory: to go through it is what takes the time.
 #[derive(Drop)]
 pub(super) struct Askers {
     /// Where the link of each goal's last asker is: 1 more than its place, and 0 where there is none.
-    last: Vec<usize>,
+    last: Vec<u32>,
     pub(super) links: Vec<Link>,
 }
 
 impl Askers {
-    /// Those of the first so many goals, by these rows.
-    pub(super) fn new(alloc: Global, rows: Arrays<'_>, count: usize) -> Result<Askers, NoMemory>
+    /// Which of so many goals ask the first ones, by these rows.
+    pub(super) fn new(
+        alloc: Global,
+        rows: Arrays<'_>,
+        count: usize,
+        asked: usize,
+    ) -> Result<Askers, NoMemory>
         requires few { count ≤ 2 ^ 32 }
-        ensures { IfOk result (AreAskers (λ asked goal. (goal < count) × Asks (table_in rows.entry) goal asked) count) }
+        ensures { IfOk result (AreAskers (λ one goal. (goal < count) × Asks (table_in rows.entry) goal one) asked) }
     {
         let mut askers = Askers {
-            last: vec![in alloc; 0; count]?,
+            last: vec![in alloc; 0; asked]?,
             links: Vec::with_capacity(alloc, rows.questions.len())?,
         };
         for place in 0..count {
@@ -42,7 +48,7 @@ impl Askers {
     }
 
     /// Where the link of the goal's last asker is.
-    pub(super) fn last_of(&self, goal: u32) -> usize
+    pub(super) fn last_of(&self, goal: u32) -> u32
         ensures { result ≡ last_of self.now goal }
     {
         match self.last.get(goal as usize) {
@@ -84,12 +90,16 @@ impl Askers {
     {
         let place = asked as usize;
         if place < self.last.len() {
+            let count = self.links.len();
+            if count >= u32::MAX as usize {
+                return Err(NoMemory);
+            }
             let earlier = self.last[place];
             self.links.push(Link {
                 asker: goal,
                 earlier,
             })?;
-            self.last[place] = self.links.len();
+            self.last[place] = count as u32 + 1;
         }
         Ok(())
     }

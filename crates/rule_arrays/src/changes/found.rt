@@ -1,5 +1,5 @@
 //! Goals that are found from some on, each followed once.
-ghost use Rattle.std.specs.Prelude.{◌≡◌, ◌↔◌, ℕ, IsTrue, OnOk, [], length};
+ghost use Rattle.std.specs.Prelude.{◌≡◌, ◌≤◌, ◌↔◌, ℕ, IsTrue, OnOk, [], length};
 ghost use Rattle.std.specs.HashSet.{contains};
 ghost use Rattle.rule_arrays.specs.Askers.{AreChains, HasAsker};
 ghost use Rattle.rule_arrays.specs.Found.{AreListed, Finds, FollowsAll, IsFound};
@@ -32,6 +32,17 @@ impl Found {
         ensures { IsTrue result ↔ length self.now.goals.items ≡ 0 }
     {
         self.goals.is_empty()
+    }
+
+    /// None of the goals has a greater number. It is 0 where none is found.
+    pub(super) fn last(&self) -> u32
+        ensures { (goal : ℕ) → IsFound self.now goal → goal ≤ result }
+    {
+        let mut last = 0;
+        for goal in &self.goals {
+            last = last.max(*goal);
+        }
+        last
     }
 
     /// The goal is found, if it was not before.
@@ -68,7 +79,7 @@ impl Found {
     {
         let mut at = askers.last_of(goal);
         while at > 0 {
-            let link = askers.links[at - 1];
+            let link = askers.links[at as usize - 1];
             self.note(link.asker)?;
             at = link.earlier;
         }

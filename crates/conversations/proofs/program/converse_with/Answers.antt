@@ -1,5 +1,5 @@
-use Rattle.rule_tables.proofs.Stops.{status_in_range, told_by_status}
-use Rattle.conversations.proofs.Statuses.{broken_by_status, never_two}
+use Rattle.program_ends.proofs.Stops.{broken_by_status, status_in_range, told_by_status}
+use Rattle.conversations.proofs.Statuses.{never_two}
 use Rattle.conversations.proofs.program.converse_with.Goals as goal
 
 pub returns-clause-status : goal.returns-clause-status

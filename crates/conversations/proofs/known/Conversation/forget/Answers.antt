@@ -1,18 +1,25 @@
-use Rattle.rule_tables.specs.contracts.rules.GoalPartialEq.TheImpl.{eq-value}
-use Rattle.conversations.specs.Below.{is_among}
-use Rattle.conversations.proofs.Staying.{known_changes, known_stays}
+use Rattle.std.proofs.Common.{◌∙◌, subst, sym}
+use Rattle.std.proofs.lemmas.List.Elements.{All-nil}
+use Rattle.table_runs.specs.Right.{SomeGraphShows}
+use Rattle.conversations.specs.Below.{AreShown, scripts_of}
+use Rattle.conversations.proofs.Staying.{since_now, since_one, since_stays}
 use Rattle.conversations.proofs.known.Conversation.forget.Goals as goal
 
-pub invariant_of-self-in_err-gone : goal.invariant_of-self-in_err-gone
-invariant_of-self-in_err-gone c =
-    known_stays _ _ (λ is_gone before after h. h) (λ is_gone before after h. h) _ _ _ _
+pub invariant_of-self-then-not-self : goal.invariant_of-self-then-not-self
+invariant_of-self-then-not-self c =
+    since_now _ _ _ _ _ _ (record {
+      sound = c.new.ensures.sound _ (scripts_of c.clear.new.self);
+      are_shown = λ cx is. subst (AreShown _ cx) (sym c.new-then-not-self.ensures)
+          (All-nil (λ key. SomeGraphShows _ cx key.0 key.1));
+    })
+
+pub invariant_of-self-in_err-push : goal.invariant_of-self-in_err-push
+invariant_of-self-in_err-push c =
+    since_stays _ _ c.self.inside.changed.items _ c.self.inside.table _ _ _ c.in_err-push.ensures.items
     c.in_ok-goal.ensures.candidates c.self.invariant
 
 pub invariant_of-self-2 : goal.invariant_of-self-2
 invariant_of-self-2 c =
-    known_changes _ _ (λ is_gone before after h. h) (λ is_gone before after h. h) c.self.inside.table
-    c.goal_named.new.self c.clear-2.new.self c.in_ok-goal.goal (is_among eq-value.it c.in_ok-gone.gone.keys)
-    c.self.inside.found c.forget.new.self c.self.inside.shown c.forget-2.new.self
-    c.self.invariant c.in_ok-goal.ensures.candidates c.in_ok-gone.ensures.exact
-    (c.in_ok-gone.ensures.keeps c.clear-2.new.self c.clear-2.ensures.clears.others) c.clear-2.ensures.clears.others
-    c.forget.ensures.nodes c.forget.ensures.results c.forget-2.ensures.stay
+    since_one _ _ c.self.inside.changed.items _ c.in_ok-goal.goal c.self.inside.table _ _ _ c.in_ok-push.ensures.items
+    (λ goal other. c.clear-2.ensures.clears.others goal other ∙ c.in_ok-goal.ensures.candidates goal)
+    c.self.invariant

@@ -13,4 +13,4 @@ returns-in_ok-push c =
     (sym (get_or_from_slice_get last c.args.asked earlier 0
     (slice_get_read last (length last) c.args.asked earlier refl within c.index-earlier.ensures)))
     c.in_ok-push.ensures.items
-    (ap (set last c.args.asked) (omega (arith, c.len-then-place-len.ensures, c.in_ok-push.ensures.len)))
+    (ap (set last c.args.asked) (omega (arith, c.len-count.ensures)))

@@ -18,10 +18,10 @@ returns c =
     let items = c.in_ok-vec.ensures.items_if_clones_equal (λ y e. e) in
     let end : c.loop-place.place ≡ c.args.count =
     omega (arith, c.loop-place-test.false, c.loop-place.auto.place-end) in
-    subst (λ n. AreAskers (λ asked goal. (goal < n) × Asks (table_in c.args.rows) goal asked) c.args.count
+    subst (λ n. AreAskers (λ asked goal. (goal < n) × Asks (table_in c.args.rows) goal asked) c.args.asked
     c.loop-place.askers) end
     (all_added (λ asked goal. (goal < c.loop-place.place) × Asks (table_in c.args.rows) goal asked)
-    (record { last = c.in_ok-vec.field-0; links = c.in_ok-with_capacity.field-0 }) c.loop-place.askers c.args.count
-    (λ goal. ap (λ l. get_or l goal 0) items ∙ none_last c.args.count goal)
-    (ap (length {A = ℕ}) items ∙ length-replicate {A = ℕ} c.args.count 0)
+    (record { last = c.in_ok-vec.field-0; links = c.in_ok-with_capacity.field-0 }) c.loop-place.askers c.args.asked
+    (λ goal. ap (λ l. get_or l goal 0) items ∙ none_last c.args.asked goal)
+    (ap (length {A = ℕ}) items ∙ length-replicate {A = ℕ} c.args.asked 0)
     c.loop-place.invariant)
