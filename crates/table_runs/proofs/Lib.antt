@@ -1,4 +1,5 @@
 pub mod Accepted
 pub mod Answered
+pub mod Parts
 pub mod Right
 pub mod Kept

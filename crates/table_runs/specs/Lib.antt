@@ -1,3 +1,4 @@
+pub mod Parts
 pub mod Right
 pub mod Told
 pub mod Answers

@@ -4,6 +4,7 @@
 //! | File of `specs/` | Has |
 //! |---|---|
 //! | `Right` | what an outcome is worth by the rules alone |
+//! | `Parts` | what is new in a graph, and what was shown before |
 //! | `Told`, `Answers` | the line of a question, and what a question came to |
 //! | `Program` | what a run of a program came to |
 #![tactic(auto)]

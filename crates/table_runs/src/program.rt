@@ -4,14 +4,16 @@ ghost use Rattle.std.specs.Io.KnownBytes.{Keeps};
 ghost use Rattle.table_runs.specs.Below.{IsFirstBadLine};
 ghost use Rattle.table_runs.specs.Program.{IsAllTold, IsBrokenOff};
 
+mod parts;
 mod questions;
 mod shown;
 
 use line_texts::{Flush, read_input};
+use program_ends::{Stop, status_told};
 use questions::answer_questions;
 pub use questions::{Checks, ask, came_fine};
 use rule_tables::delegate::Table;
-use rule_tables::{Goal, Outcome, Rules, Stop, TableDelegate, status_told};
+use rule_tables::{BadLine, Goal, Outcome, Rules, TableDelegate};
 use search_parts::context::{Cx, Delegate};
 pub use shown::ShownNodes;
 use std::alloc::Global;
@@ -108,14 +110,14 @@ fn answer_input<R: Read, W: Flush>(
     checks: Checks,
     input: &mut R,
     out: &mut W,
-) -> Result<bool, Stop>
+) -> Result<bool, Stop<BadLine>>
     ensures told { IfOk result (IsAllTold ⟦<TableDelegate<'static, 8, 1> as Delegate>⟧
         ⟦<Table<&'static Rules> as Cx>⟧ ⟦<Goal as PartialEq>⟧.eq ⟦<Outcome as PartialEq>⟧.eq checks
         (R.remaining input.old) (W.contents out.old) (W.contents out.new)) }
     ensures flushed { OnOk result (W.is_flushed out.new) }
-    ensures bad_line { (n : ℕ) → result ≡ Err (Stop.BadLine n) →
+    ensures bad_line { (n : ℕ) → result ≡ Err (Stop.Text (record { number = n })) →
         IfSome (R.remaining input.old) (λ text. IsFirstBadLine text n) }
-    ensures nothing_written { (n : ℕ) → result ≡ Err (Stop.BadLine n) →
+    ensures nothing_written { (n : ℕ) → result ≡ Err (Stop.Text (record { number = n })) →
         Keeps (W.contents out.old) (W.contents out.new) }
     ensures beginning { OnErr result (IsBrokenOff ⟦<TableDelegate<'static, 8, 1> as Delegate>⟧
         ⟦<Table<&'static Rules> as Cx>⟧ ⟦<Goal as PartialEq>⟧.eq ⟦<Outcome as PartialEq>⟧.eq checks

@@ -11,7 +11,8 @@ use crate::program::shown::ShownNodes;
 use answer_lines::goals::{Check, Told, write_line};
 use delegate_parts::{Builder, Outcome};
 use line_texts::{Flush, write_bytes};
-use rule_tables::{Goal, Rules, Stop};
+use program_ends::Stop;
+use rule_tables::{BadLine, Goal, Rules};
 use search_graph::graph::SearchGraph;
 use search_graph::law::is_sound;
 use search_graph::law::limits::price;
@@ -45,7 +46,7 @@ pub(super) fn answer_questions<X, D, W>(
     rules: &Rules,
     checks: Checks,
     out: &mut W,
-) -> Result<bool, Stop>
+) -> Result<bool, Stop<BadLine>>
 where
     X: Cx<Input = Goal, Result = Outcome>,
     D: Delegate<Cx = X, ProofTreeBuilder = Builder>,
@@ -97,7 +98,7 @@ fn tell<W: Write>(
     waiting: &mut Vec<u8>,
     name: &[u8],
     came: Result<Told, Fault<Goal, Outcome>>,
-) -> Result<(), Stop>
+) -> Result<(), Stop<BadLine>>
     ensures passed { OnOk result (Passes (W.contents out.old) (W.contents out.new)
         (waiting.old.items ++ line_told name.now came) waiting.new.items) }
     ensures beginning { OnErr result (AppendsBeginning (W.contents out.old) (W.contents out.new)

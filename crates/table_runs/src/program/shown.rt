@@ -3,6 +3,7 @@ ghost use Rattle.std.specs.Prelude.{◌≡◌, [], IsTrue, IfOk, Some, filter, n
 ghost use Rattle.table_runs.specs.Below.{is_among, IsDefinite, HasGraph, KeepsRule, verdicts};
 ghost use Rattle.table_runs.specs.Right.{AreShown, SomeGraphShows};
 
+use crate::program::parts::{ShownKey, is_first, is_part_shown, part_of, remember};
 use delegate_parts::{Builder, Outcome};
 use determined::law::graphs_stay;
 use graph_check::check_graph;
@@ -14,10 +15,10 @@ use std::collections::HashSet;
 use std::marker::Model;
 
 /// The goals and outcomes that were shown, each by the graph of this node. A finished node never changes, so none has
-/// to be shown again, unless the rules change.
+/// to be shown again, unless the rules change; nor has one that is reached from a node which is shown later.
 #[derive(Drop)]
 pub struct ShownNodes {
-    shown: HashSet<(Goal, Outcome, NodeId)>,
+    shown: HashSet<ShownKey>,
 }
 
 impl Model for ShownNodes {
@@ -66,11 +67,42 @@ impl ShownNodes {
         if self.shown.contains(&key) {
             return Ok(true);
         }
+        if self.shows_part::<X, D>(alloc, cache, goal, outcome, node)? {
+            return Ok(true);
+        }
         if !is_shown::<X, D>(alloc, cache, goal, outcome, node)? {
             return Ok(false);
         }
         self.shown.insert(key)?;
         Ok(true)
+    }
+
+    // Whether the checker accepts what is new in the graph of the goal's node. Then all of that is remembered.
+    fn shows_part<X, D>(
+        &mut self,
+        alloc: Global,
+        cache: &GlobalCache<D>,
+        goal: Goal,
+        outcome: Outcome,
+        node: NodeId,
+    ) -> Result<bool, NoMemory>
+    where
+        X: Cx<Input = Goal, Result = Outcome>,
+        D: Delegate<Cx = X, ProofTreeBuilder = Builder>,
+        ensures shown { AreShown X.Cx cache.now.cx self.old →
+            IfOk result (λ shown. IsTrue shown → SomeGraphShows X.Cx cache.now.cx goal outcome) }
+        ensures remembered { AreShown X.Cx cache.now.cx self.old →
+            AreShown X.Cx cache.now.cx self.new }
+    {
+        let sort = cache.cx().sort(outcome);
+        let Some(part) = part_of::<X, D>(alloc, cache, &self.shown, node, sort)? else {
+            return Ok(false);
+        };
+        if !is_part_shown::<X, D>(alloc, cache.cx(), &part, sort)? {
+            return Ok(false);
+        }
+        remember(&mut self.shown, &part)?;
+        Ok(is_first(&part, goal, outcome))
     }
 
     /// Forgets what was shown of goals that are gone. It takes no memory. Where rules change, a goal is gone if its rules are
@@ -89,7 +121,7 @@ impl ShownNodes {
 }
 
 // Forgets what was shown of goals that are gone.
-fn forget_keys(shown: &mut HashSet<(Goal, Outcome, NodeId)>, gone: &HashSet<Goal>)
+fn forget_keys(shown: &mut HashSet<ShownKey>, gone: &HashSet<Goal>)
     ensures { shown.new.keys ≡ filter (λ key.
         not (is_among ⟦<Goal as PartialEq>⟧.eq gone.now.keys key.0)) shown.old.keys }
 {
@@ -97,7 +129,7 @@ fn forget_keys(shown: &mut HashSet<(Goal, Outcome, NodeId)>, gone: &HashSet<Goal
 }
 
 // Whether the goal that was shown is gone.
-fn is_gone(key: &(Goal, Outcome, NodeId), gone: &HashSet<Goal>) -> bool
+fn is_gone(key: &ShownKey, gone: &HashSet<Goal>) -> bool
     ensures { result ≡ is_among ⟦<Goal as PartialEq>⟧.eq gone.now.keys key.now.0 }
 {
     gone.contains(&key.0)

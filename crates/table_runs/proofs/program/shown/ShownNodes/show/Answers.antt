@@ -19,7 +19,7 @@ returns-then-contains-clause-shown g c = λ known is.
 pub returns-clause-remembered : goal.returns-clause-remembered
 returns-clause-remembered g c = λ known.
     let cx = c.args.cache.now.cx in
-    all_put (λ key. SomeGraphShows g.X.Cx cx key.0 key.1) c.self.inside.shown.keys c.insert.new.self.keys
+    all_put (λ key. SomeGraphShows g.X.Cx cx key.0 key.1) c.self-2.inside.shown.keys c.insert.new.self.keys
     (c.args.goal, c.args.outcome, c.args.node) c.in_ok-insert.field-0
     c.in_ok-insert.ensures.keys (c.in_ok-is_shown.ensures.shown c.if-not-branch.false)
-    (subst (AreShown g.X.Cx cx) (sym c.self.view_is) known)
+    (subst (AreShown g.X.Cx cx) (sym c.self-2.view_is) (c.shows_part.ensures.remembered known))
