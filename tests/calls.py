@@ -75,3 +75,10 @@ def wrong_call(text, taken):
             if count is not None and count != taken[found[1]]:
                 return found[1], count
     return None
+
+
+def own_functions(text, taken):
+    """Those of the functions that the text, as it stands, calls with no other number: one that it does has the name of another crate's."""
+    while wrong := wrong_call(text, taken):
+        taken = {name: count for name, count in taken.items() if name != wrong[0]}
+    return taken
