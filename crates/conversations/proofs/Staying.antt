@@ -119,11 +119,11 @@ none_ask table goal asked stays asks = refl
 module _ {A T : Type 0} (X : CxOf Lending Goal Outcome A T) (same : Goal → Goal → Bool) where
   -- what was shown is shown by other rules that all goals keep
   pub shown_on : (before after : Lending) → KeepsRule none_gone (X.proves before) (X.proves after)
-      → KeepsRule none_gone (X.refutes before) (X.refutes after) → (shown : List (Goal × Outcome × NodeId))
+      → KeepsRule none_gone (X.refutes before) (X.refutes after) → (shown : List (Goal × (Outcome × NodeId)))
       → AreShown X before shown → AreShown X after shown
   shown_on before after proves refutes shown =
-      All-weaker (λ key. SomeGraphShows X before key.0 key.1) (λ key. SomeGraphShows X after key.0 key.1)
-      (λ key. shows_on X before after key.0 key.1
+      All-weaker (λ key. SomeGraphShows X before key.0 key.1.0) (λ key. SomeGraphShows X after key.0 key.1.0)
+      (λ key. shows_on X before after key.0 key.1.0
       (proof_stays none_gone (X.proves before) (X.proves after) proves key.0 refl)
       (refutation_stays none_gone (X.refutes before) (X.refutes after) refutes key.0 refl)) shown
 
@@ -138,7 +138,7 @@ module _ {A T : Type 0} (X : CxOf Lending Goal Outcome A T) (same : Goal → Goa
       → KeepsRule is_gone (X.refutes before) (X.refutes after)) where
     -- what was shown by one context is shown by another that lends the same candidates
     pub shown_by_both : (before after : Lending) → KeepsCandidates (lent_by before) (lent_by after)
-        → (shown : List (Goal × Outcome × NodeId)) → AreShown X before shown → AreShown X after shown
+        → (shown : List (Goal × (Outcome × NodeId))) → AreShown X before shown → AreShown X after shown
     shown_by_both before after keeps shown =
         let old = lent_by before in
         let new = lent_by after in
@@ -149,7 +149,7 @@ module _ {A T : Type 0} (X : CxOf Lending Goal Outcome A T) (same : Goal → Goa
         (keeps_refutes old new none_gone (λ goal stays. keeps goal) (none_ask old) old new refl refl)) shown
 
     -- what is known stays where each goal has the candidates that it had
-    pub known_stays : (old new : Table) (found : Findings Goal Outcome T) (shown : List (Goal × Outcome × NodeId))
+    pub known_stays : (old new : Table) (found : Findings Goal Outcome T) (shown : List (Goal × (Outcome × NodeId)))
         → KeepsCandidates old new → IsKnown X same old found shown → IsKnown X same new found shown
     known_stays old new found shown keeps known = record {
       sound = AreSoundFindings-changed same (verdicts X) (scripts_of old) (scripts_of new) none_gone found found
@@ -167,7 +167,7 @@ module _ {A T : Type 0} (X : CxOf Lending Goal Outcome A T) (same : Goal → Goa
 
     -- and without what is gone, where those of some goals changed
     pub known_changes : (old new : Table) (changed : List Goal) (is_gone : Goal → Bool)
-        (found left : Findings Goal Outcome T) (shown others : List (Goal × Outcome × NodeId))
+        (found left : Findings Goal Outcome T) (shown others : List (Goal × (Outcome × NodeId)))
         → IsKnown X same old found shown → KeepsAllOtherCandidates changed old new
         → ((goal : Goal) → IsTrue (is_gone goal) ↔ IsConcerned new changed goal)
         → KeepsOthers is_gone (scripts_of old) (scripts_of new)
@@ -192,7 +192,7 @@ module _ {A T : Type 0} (X : CxOf Lending Goal Outcome A T) (same : Goal → Goa
 
     -- and over what was found out since, by two contexts that lend the table
     pub known_after : (table : Table) (cx other : Lending) (before found : Findings Goal Outcome T)
-        (shown more : List (Goal × Outcome × NodeId)) → IsKnown X same table before shown
+        (shown more : List (Goal × (Outcome × NodeId))) → IsKnown X same table before shown
         → lent_by cx ≡ table → lent_by other ≡ table
         → AreSoundFindings same (verdicts X) (scripts_of (lent_by other)) found
         → (AreShown X cx shown → AreShown X cx more) → IsKnown X same table found more
@@ -207,13 +207,13 @@ module _ {A T : Type 0} (X : CxOf Lending Goal Outcome A T) (same : Goal → Goa
 module _ {A T : Type 0} (X : CxOf Lending Goal Outcome A T) (same : Goal → Goal → Bool) where
   -- what is known now
   pub since_now : (changed : List Goal) (table : Table) (found : Findings Goal Outcome T)
-      (shown : List (Goal × Outcome × NodeId)) → IsKnown X same table found shown
+      (shown : List (Goal × (Outcome × NodeId))) → IsKnown X same table found shown
       → IsKnownSince X same changed table found shown
   since_now changed table found shown known = record { before = table; keeps = λ goal other. refl; known = known }
 
   -- no goal changed
   pub since_stays : (changed more : List Goal) (old new : Table) (found : Findings Goal Outcome T)
-      (shown : List (Goal × Outcome × NodeId)) → more ≡ changed → KeepsCandidates old new
+      (shown : List (Goal × (Outcome × NodeId))) → more ≡ changed → KeepsCandidates old new
       → IsKnownSince X same changed old found shown → IsKnownSince X same more new found shown
   since_stays changed more old new found shown is keeps since = record {
     before = since.before;
@@ -223,7 +223,7 @@ module _ {A T : Type 0} (X : CxOf Lending Goal Outcome A T) (same : Goal → Goa
 
   -- one more did
   pub since_one : (changed more : List Goal) (one : Goal) (old new : Table) (found : Findings Goal Outcome T)
-      (shown : List (Goal × Outcome × NodeId)) → more ≡ changed ++ one ∷ [] → KeepsOtherCandidates one old new
+      (shown : List (Goal × (Outcome × NodeId))) → more ≡ changed ++ one ∷ [] → KeepsOtherCandidates one old new
       → IsKnownSince X same changed old found shown → IsKnownSince X same more new found shown
   since_one changed more one old new found shown is keeps since = record {
     before = since.before;

@@ -10,14 +10,14 @@ use Rattle.conversations.specs.Conversation.{Came, changes_by, is_fine, told_of,
 
 -- What was found out is sound by the rules of the table, and what was shown is shown by them.
 pub record IsKnown {A T : Type 0} (X : CxOf Lending Goal Outcome A T) (same : Goal → Goal → Bool)
-    (table : Table) (found : Findings Goal Outcome T) (shown : List (Goal × Outcome × NodeId)) : Type 0 where
+    (table : Table) (found : Findings Goal Outcome T) (shown : List (Goal × (Outcome × NodeId))) : Type 0 where
   pub sound : AreSoundFindings same (verdicts X) (scripts_of table) found
   pub are_shown : (cx : Lending) → lent_by cx ≡ table → AreShown X cx shown
 
 -- It was known so of a table that differs in the rules of these goals alone.
 pub record IsKnownSince {A T : Type 0} (X : CxOf Lending Goal Outcome A T) (same : Goal → Goal → Bool)
     (changed : List Goal) (table : Table) (found : Findings Goal Outcome T)
-    (shown : List (Goal × Outcome × NodeId)) : Type 0 where
+    (shown : List (Goal × (Outcome × NodeId))) : Type 0 where
   pub before : Table
   pub keeps : KeepsAllOtherCandidates changed before table
   pub known : IsKnown X same before found shown

@@ -71,7 +71,7 @@ module _ {D C V P F A T : Type 0} (G : DelegateOf D C V P F Goal Outcome A T) (X
 
   module _ (cx : C) where
     -- The questions were answered in turn, and left this cache. What is remembered as shown is shown by the rules.
-    pub record HaveLed (cache : Cache C Goal Outcome T) (shown : List (Goal × Outcome × NodeId))
+    pub record HaveLed (cache : Cache C Goal Outcome T) (shown : List (Goal × (Outcome × NodeId)))
         (answered : List AnsweredQuestion) : Type 0 where
       pub in_turn : LeaveCache G X same same_result checks cx cache answered
       pub same_context : cache.cx ≡ cx
@@ -85,21 +85,21 @@ module _ {D C V P F A T : Type 0} (G : DelegateOf D C V P F Goal Outcome A T) (X
       are_right = All-nil (λ a. IfOk a.came (IsRightlyTold X cx a.question.1));
     }
 
-    pub none_led : (cache : Cache C Goal Outcome T) (shown : List (Goal × Outcome × NodeId)) →
+    pub none_led : (cache : Cache C Goal Outcome T) (shown : List (Goal × (Outcome × NodeId))) →
         cache ≡ record { cx = cx; nodes = []; results = [] } → shown ≡ [] → HaveLed cache shown []
     none_led cache shown empty none = record {
       in_turn = sym empty;
       same_context = ap (λ k. k.cx) empty;
-      are_shown = subst (AreShown X cx) (sym none) (All-nil (λ key. SomeGraphShows X cx key.0 key.1));
+      are_shown = subst (AreShown X cx) (sym none) (All-nil (λ key. SomeGraphShows X cx key.0 key.1.0));
       are_right = All-nil (λ a. IfOk a.came (IsRightlyTold X cx a.question.1));
     }
 
-    pub all_in_turn : (cache : Cache C Goal Outcome T) (shown : List (Goal × Outcome × NodeId))
+    pub all_in_turn : (cache : Cache C Goal Outcome T) (shown : List (Goal × (Outcome × NodeId)))
         (all : List AnsweredQuestion) → HaveLed cache shown all → AreInTurn G X same same_result checks cx all
     all_in_turn cache shown all led = record { after = cache; in_turn = led.in_turn; are_right = led.are_right }
 
     -- one question more, over the cache that the others left
-    pub led_on : (before after : Cache C Goal Outcome T) (old new : List (Goal × Outcome × NodeId))
+    pub led_on : (before after : Cache C Goal Outcome T) (old new : List (Goal × (Outcome × NodeId)))
         (last : AnsweredQuestion) → IsAnswered G X same same_result checks before last after →
         IsSoundCache same (verdicts X) G.script after →
         IfOk last.came (λ told. IsRightOutcome X before.cx last.question.1 told.outcome) →

@@ -1,5 +1,5 @@
 -- What is new in a graph: once it is accepted, all its nodes are shown.
-use Rattle.std.proofs.Common.{◌≡◌, ◌≢◌, ◌∙◌, ◌↔◌, ℕ, ap, arith, Bool, Err, false, get_or, IfOk, inl, inr, IsTrue}
+use Rattle.std.proofs.Common.{◌≡◌, ◌≢◌, ◌∙◌, ℕ, ap, arith, Bool, Err, false, get_or, IfOk, inl, inr, IsTrue}
 use Rattle.std.proofs.Common.{length, List, [], ◌∷◌, ◌++◌, Ok, option_map, refl, Result, slice_get, Some, subst, sym}
 use Rattle.std.proofs.Common.{true}
 use Rattle.std.proofs.lemmas.Bool.{false≢true}

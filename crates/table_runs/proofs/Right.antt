@@ -1,12 +1,7 @@
 -- What an answer is worth by the rules alone, by what the search promises, and by what the checker accepts.
-use Rattle.std.proofs.Common.{◌≡◌, ◌↔◌, Bool, true, false, List, [], ◌∷◌, None, Some, Option, Ok, Err, Result, IfOk}
-use Rattle.std.proofs.Common.{IsTrue, inl, inr, refl, subst, sym}
-use Rattle.std.proofs.lemmas.Bool.{false≢true, or_cases}
-use Rattle.std.proofs.lemmas.List.Elements.{All-cons, All-head, All-tail}
-use Rattle.std.proofs.lemmas.List.Sorted.{All-permutation}
-use Rattle.std.specs.Bool.{MatchBool}
-use Rattle.std.specs.List.{All, list_any}
-use Rattle.std.specs.List.Sorted.{IsPermutation}
+use Rattle.std.proofs.Common.{◌≡◌, ◌↔◌, Bool, true, false, List, None, Some, Option, Ok, Err, Result, IfOk}
+use Rattle.std.proofs.Common.{IsTrue, refl}
+use Rattle.std.proofs.lemmas.Bool.{false≢true}
 use Rattle.search_context.specs.declared.context.Answer.{Answer}
 use Rattle.search_context.specs.declared.context.Verdict.TheVariants as verdict
 use Rattle.graph_nodes.specs.Nodes.{graph_nodes_of}
@@ -53,29 +48,3 @@ module _ {C A T : Type 0} (X : CxOf C Goal Outcome A T) (scripts : Goal → List
   accepted_shows verdict.Neither as_yes as_no (Ok true) exact proof refutation = λ is. absurd (exact.0 is)
   accepted_shows sort as_yes as_no (Ok false) exact proof refutation = λ is. absurd (false≢true is)
   accepted_shows sort as_yes as_no (Err refused) exact proof refutation = tt
-
--- ---- in what is remembered
-
--- some item passes the test, and this follows of each that does
-pub any_gives : {K : Type 0} (P : K → Type 0) (Q : Type 0) (test : K → Bool) →
-    ((k : K) → test k ≡ true → P k → Q) → (ks : List K) → list_any test ks ≡ true → All P ks → Q
-any_gives P Q test gives [] found all = absurd (false≢true found)
-any_gives P Q test gives (k ∷ ks) found all =
-    elim (or_cases (test k) (list_any test ks) found) [
-      | inl is ↦ gives k is (All-head P k ks all)
-      | inr later ↦ any_gives P Q test gives ks later (All-tail P k ks all)
-    ]
-
--- an equal goal that came to an equal outcome is shown, too
-pub same_shown : {C A T : Type 0} (X : CxOf C Goal Outcome A T) (cx : C) (goal other : Goal)
-    (outcome came : Outcome) → goal ≡ other → outcome ≡ came
-    → SomeGraphShows X cx other came → SomeGraphShows X cx goal outcome
-same_shown X cx goal other outcome came same_goal same_outcome shown =
-    subst (λ g. SomeGraphShows X cx g outcome) (sym same_goal)
-    (subst (SomeGraphShows X cx other) (sym same_outcome) shown)
-
--- an item that was put among others, or was there
-pub all_put : {K : Type 0} (P : K → Type 0) (old new : List K) (key : K) (added : Bool) →
-    MatchBool added (IsPermutation (key ∷ old) new) (new ≡ old) → P key → All P old → All P new
-all_put P old new key true put holds all = All-permutation P (key ∷ old) new put (All-cons P key old holds all)
-all_put P old new key false put holds all = subst (All P) (sym put) all

@@ -1,5 +1,6 @@
 pub mod Parts
 pub mod Right
+pub mod Shown
 pub mod Told
 pub mod Answers
 pub mod Program

@@ -16,5 +16,5 @@ module _ {C A T : Type 0} (X : CxOf C Goal Outcome A T) (cx : C) where
     Refuted : X.is_no outcome ≡ true → HasRefutation (X.refutes cx) goal → SomeGraphShows goal outcome
 
   -- so is each of these goals with its outcome, whatever its node
-  abbrev pub AreShown : List (Goal × Outcome × NodeId) → Type 0
-  AreShown = All (λ shown. SomeGraphShows shown.0 shown.1)
+  abbrev pub AreShown : List (Goal × (Outcome × NodeId)) → Type 0
+  AreShown = All (λ shown. SomeGraphShows shown.0 shown.1.0)

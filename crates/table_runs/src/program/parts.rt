@@ -1,8 +1,9 @@
-//! What is new in a graph: the nodes that are reached by way of nodes which were not shown yet, and those at which it goes no
-//! further.
-ghost use Rattle.std.specs.Prelude.{◌≡◌, IfOk, IfSome, IsTrue, length, true};
+//! What is new in a graph: the nodes that are reached by way of nodes which were not shown yet, and those at which it goes
+//! no further.
+ghost use Rattle.std.specs.Prelude.{◌≡◌, IfOk, IfSome, IsTrue, length, Some, true};
 ghost use Rattle.table_runs.specs.Parts.{AllAreShown, IsOfSort, KnownAreShown};
 ghost use Rattle.table_runs.specs.Right.{AreShown, SomeGraphShows};
+ghost use Rattle.table_runs.specs.Shown.{shown_of};
 
 use delegate_parts::{Builder, Outcome};
 use graph_check::check_part;
@@ -11,10 +12,10 @@ use rule_tables::Goal;
 use search_parts::context::{Cx, Delegate, Edge, NoMemory, Node, NodeId, ProofGraph, Verdict};
 use search_parts::global_cache::GlobalCache;
 use std::alloc::Global;
-use std::collections::HashSet;
+use std::collections::HashMap;
 
-/// A goal and an outcome, which the graph of this node shows.
-pub(super) type ShownKey = (Goal, Outcome, NodeId);
+/// Of a goal the outcome that was shown of it last, with the node by whose graph it was.
+pub(super) type Shown = HashMap<Goal, (Outcome, NodeId)>;
 
 /// A part of a graph.
 #[derive(Drop)]
@@ -30,7 +31,7 @@ pub(super) struct Part<X: Cx> {
 pub(super) fn part_of<X, D>(
     alloc: Global,
     cache: &GlobalCache<D>,
-    shown: &HashSet<ShownKey>,
+    shown: &Shown,
     root: NodeId,
     sort: Verdict,
 ) -> Result<Option<Part<X>>, NoMemory>
@@ -38,7 +39,7 @@ where
     X: Cx<Input = Goal, Result = Outcome>,
     D: Delegate<Cx = X, ProofTreeBuilder = Builder>,
     ensures each { IfOk result (λ part. IfSome part (λ p. length p.known.items ≡ length p.graph.nodes.items)) }
-    ensures known { AreShown X.Cx cache.now.cx shown.now.keys → IfOk result (λ part. IfSome part (λ p.
+    ensures known { AreShown X.Cx cache.now.cx shown.now.entries → IfOk result (λ part. IfSome part (λ p.
         KnownAreShown X.Cx cache.now.cx sort p.known.items p.graph.nodes.items)) }
 {
     let mut found = IndexSet::new(alloc);
@@ -66,19 +67,31 @@ where
 // Whether the goal of the node was shown, with its outcome, which is of this sort.
 fn was_shown<X: Cx<Input = Goal, Result = Outcome>>(
     cx: X,
-    shown: &HashSet<ShownKey>,
+    shown: &Shown,
     node: &Node<Goal, Outcome>,
     id: NodeId,
     sort: Verdict,
 ) -> bool
     ensures of_sort { result ≡ true → IsOfSort X.Cx sort node.now.result }
-    ensures shown { AreShown X.Cx cx shown.now.keys → result ≡ true →
+    ensures shown { AreShown X.Cx cx shown.now.entries → result ≡ true →
         SomeGraphShows X.Cx cx node.now.input node.now.result }
 {
-    cx.sort(node.result) == sort && shown.contains(&(node.input, node.result, id))
+    cx.sort(node.result) == sort && is_remembered(shown, node.input, node.result, id)
 }
 
-// A copy of the node, whose edges lead to the places of their targets. Of one that is known it is not told what it rests on.
+/// Whether it is remembered that the graph of this node shows the outcome of the goal.
+pub(super) fn is_remembered(shown: &Shown, goal: Goal, outcome: Outcome, node: NodeId) -> bool
+    ensures { result ≡ true →
+        shown_of ⟦<Goal as PartialEq>⟧.eq shown.now.entries goal ≡ Some (outcome, node) }
+{
+    match shown.get(&goal) {
+        Some(known) => known.0 == outcome && known.1 == node,
+        None => false,
+    }
+}
+
+// A copy of the node, whose edges lead to the places of their targets. Of one that is known it is not told what it rests
+// on.
 fn copied(
     alloc: Global,
     found: &mut IndexSet<NodeId>,
@@ -124,11 +137,11 @@ fn placed(
 
 /// Remembers that the goals of the part's nodes are shown, each with its outcome.
 pub(super) fn remember<X: Cx<Input = Goal, Result = Outcome>>(
-    shown: &mut HashSet<ShownKey>,
+    shown: &mut Shown,
     part: &Part<X>,
 ) -> Result<(), NoMemory>
     ensures { (cx : X) → AllAreShown X.Cx cx part.now.graph.nodes.items →
-        AreShown X.Cx cx shown.old.keys → AreShown X.Cx cx shown.new.keys }
+        AreShown X.Cx cx shown.old.entries → AreShown X.Cx cx shown.new.entries }
 {
     for (place, node) in part.graph.nodes.iter().enumerate() {
         if let Some(id) = part.found.get_index(place) {
@@ -140,14 +153,14 @@ pub(super) fn remember<X: Cx<Input = Goal, Result = Outcome>>(
 
 // Remembers that the goal of the node is shown, with its outcome.
 fn remember_node<X: Cx<Input = Goal, Result = Outcome>>(
-    shown: &mut HashSet<ShownKey>,
+    shown: &mut Shown,
     node: &Node<Goal, Outcome>,
     id: NodeId,
 ) -> Result<(), NoMemory>
     ensures { (cx : X) → SomeGraphShows X.Cx cx node.now.input node.now.result →
-        AreShown X.Cx cx shown.old.keys → AreShown X.Cx cx shown.new.keys }
+        AreShown X.Cx cx shown.old.entries → AreShown X.Cx cx shown.new.entries }
 {
-    shown.insert((node.input, node.result, id))?;
+    shown.insert(node.input, (node.result, id))?;
     Ok(())
 }
 

@@ -1,9 +1,12 @@
 //! Answers that are shown by their graphs, which are handed out and checked.
-ghost use Rattle.std.specs.Prelude.{◌≡◌, [], IsTrue, IfOk, Some, filter, not};
+ghost use Rattle.std.specs.Prelude.{◌≡◌, [], IsTrue, IfOk, IsPermutation, None, Some};
+ghost use Rattle.std.specs.HashMap.{Updates};
+ghost use Rattle.std.specs.Map.{remove_entry};
 ghost use Rattle.table_runs.specs.Below.{is_among, IsDefinite, HasGraph, KeepsRule, verdicts};
 ghost use Rattle.table_runs.specs.Right.{AreShown, SomeGraphShows};
+ghost use Rattle.table_runs.specs.Shown.{ForgetsGone};
 
-use crate::program::parts::{ShownKey, is_first, is_part_shown, part_of, remember};
+use crate::program::parts::{Shown, is_first, is_part_shown, is_remembered, part_of, remember};
 use delegate_parts::{Builder, Outcome};
 use determined::law::graphs_stay;
 use graph_check::check_graph;
@@ -11,23 +14,24 @@ use rule_tables::Goal;
 use search_parts::context::{Cx, Delegate, NoMemory, NodeId};
 use search_parts::global_cache::GlobalCache;
 use std::alloc::Global;
-use std::collections::HashSet;
+use std::collections::{HashMap, HashSet};
 use std::marker::Model;
 
-/// The goals and outcomes that were shown, each by the graph of this node. A finished node never changes, so none has
-/// to be shown again, unless the rules change; nor has one that is reached from a node which is shown later.
+/// Goals with the outcomes that were shown, each by the graph of a node; of each goal the last one. A finished node never
+/// changes, so none has to be shown again, unless the rules change; nor has one that is reached from a node which is shown
+/// later.
 #[derive(Drop)]
 pub struct ShownNodes {
-    shown: HashSet<ShownKey>,
+    shown: Shown,
 }
 
 impl Model for ShownNodes {
     ghost use Rattle.std.specs.Prelude.{List};
     ghost use Rattle.table_runs.specs.Below.{Goal, NodeId, Outcome};
 
-    ghost Value = { List (Goal × Outcome × NodeId) };
+    ghost Value = { List (Goal × (Outcome × NodeId)) };
 
-    ghost view = { λ s. s.shown.keys };
+    ghost view = { λ s. s.shown.entries };
 }
 
 impl ShownNodes {
@@ -36,7 +40,7 @@ impl ShownNodes {
         ensures { result ≡ [] }
     {
         ShownNodes {
-            shown: HashSet::new(alloc),
+            shown: HashMap::new(alloc),
         }
     }
 
@@ -63,8 +67,7 @@ impl ShownNodes {
         ensures remembered { AreShown X.Cx cache.now.cx self.old →
             AreShown X.Cx cache.now.cx self.new }
     {
-        let key = (goal, outcome, node);
-        if self.shown.contains(&key) {
+        if is_remembered(&self.shown, goal, outcome, node) {
             return Ok(true);
         }
         if self.shows_part::<X, D>(alloc, cache, goal, outcome, node)? {
@@ -73,7 +76,7 @@ impl ShownNodes {
         if !is_shown::<X, D>(alloc, cache, goal, outcome, node)? {
             return Ok(false);
         }
-        self.shown.insert(key)?;
+        self.shown.insert(goal, (outcome, node))?;
         Ok(true)
     }
 
@@ -105,34 +108,39 @@ impl ShownNodes {
         Ok(is_first(&part, goal, outcome))
     }
 
-    /// Forgets what was shown of goals that are gone. It takes no memory. Where rules change, a goal is gone if its rules are
-    /// other ones than they were, or ask a goal that is gone: what was shown of all others is shown by the rules after.
+    /// Forgets what was shown of goals that are gone, in time proportional to these. It takes no memory. Where rules change, a
+    /// goal is gone if its rules are other ones than they were, or ask a goal that is gone: what was shown of all others is
+    /// shown by the rules after.
     pub fn forget<X: Cx<Input = Goal, Result = Outcome>>(&mut self, gone: &HashSet<Goal>)
-        ensures left { self.new ≡ filter (λ shown.
-            not (is_among ⟦<Goal as PartialEq>⟧.eq gone.now.keys shown.0)) self.old }
+        ensures left { ForgetsGone ⟦<Goal as PartialEq>⟧.eq
+            (is_among ⟦<Goal as PartialEq>⟧.eq gone.now.keys) self.old self.new }
         ensures stay { (before after : X) →
             KeepsRule (is_among ⟦<Goal as PartialEq>⟧.eq gone.now.keys) (X.proves before) (X.proves after) →
             KeepsRule (is_among ⟦<Goal as PartialEq>⟧.eq gone.now.keys) (X.refutes before) (X.refutes after) →
             AreShown X.Cx before self.old → AreShown X.Cx after self.new }
     {
         graphs_stay::<X>();
-        forget_keys(&mut self.shown, gone);
+        forget_goals(&mut self.shown, gone);
     }
 }
 
 // Forgets what was shown of goals that are gone.
-fn forget_keys(shown: &mut HashSet<ShownKey>, gone: &HashSet<Goal>)
-    ensures { shown.new.keys ≡ filter (λ key.
-        not (is_among ⟦<Goal as PartialEq>⟧.eq gone.now.keys key.0)) shown.old.keys }
+fn forget_goals(shown: &mut Shown, gone: &HashSet<Goal>)
+    ensures { ForgetsGone ⟦<Goal as PartialEq>⟧.eq (is_among ⟦<Goal as PartialEq>⟧.eq gone.now.keys)
+        shown.old.entries shown.new.entries }
 {
-    shown.retain(|key| !is_gone(key, gone));
+    for goal in gone {
+        forget_goal(shown, goal);
+    }
 }
 
-// Whether the goal that was shown is gone.
-fn is_gone(key: &ShownKey, gone: &HashSet<Goal>) -> bool
-    ensures { result ≡ is_among ⟦<Goal as PartialEq>⟧.eq gone.now.keys key.now.0 }
+// Forgets what was shown of the goal.
+fn forget_goal(shown: &mut Shown, goal: &Goal)
+    ensures updates { Updates ⟦<Goal as PartialEq>⟧.eq shown.old shown.new goal.now None }
+    ensures entries { IsPermutation (remove_entry (⟦<Goal as PartialEq>⟧.eq goal.now) shown.old.entries)
+        shown.new.entries }
 {
-    gone.contains(&key.0)
+    shown.remove(goal);
 }
 
 /// Whether a graph of the node is handed out, and the checker accepts it for the goal and the outcome.

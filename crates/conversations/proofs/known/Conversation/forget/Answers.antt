@@ -10,7 +10,7 @@ invariant_of-self-then-not-self c =
     since_now _ _ _ _ _ _ (record {
       sound = c.new.ensures.sound _ (scripts_of c.clear.new.self);
       are_shown = λ cx is. subst (AreShown _ cx) (sym c.new-then-not-self.ensures)
-          (All-nil (λ key. SomeGraphShows _ cx key.0 key.1));
+          (All-nil (λ key. SomeGraphShows _ cx key.0 key.1.0));
     })
 
 pub invariant_of-self-in_err-push : goal.invariant_of-self-in_err-push

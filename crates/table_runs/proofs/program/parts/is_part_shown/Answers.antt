@@ -1,4 +1,4 @@
-use Rattle.std.proofs.Common.{◌∙◌, sym}
+use Rattle.std.proofs.Common.{sym}
 use Rattle.table_runs.proofs.Parts.{part_shows}
 use Rattle.table_runs.proofs.program.parts.is_part_shown.Goals as goal
 

@@ -41,7 +41,7 @@ loop-place-preserved g c =
                 (subst (λ k. SomeGraphShows g.X.Cx k c.in-Some-node.node.now.input c.in-Some-node.node.now.result)
                 c.cx.ensures
                 (c.was_shown-is_known.ensures.shown
-                (subst (λ k. AreShown g.X.Cx k c.args.shown.now.keys) (sym c.cx.ensures) shown) is)),
+                (subst (λ k. AreShown g.X.Cx k c.args.shown.now.entries) (sym c.cx.ensures) shown) is)),
           ))
           (c.loop-place.invariant.known shown)));
     }

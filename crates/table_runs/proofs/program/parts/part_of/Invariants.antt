@@ -7,5 +7,6 @@ use Rattle.table_runs.proofs.program.parts.part_of.Given as goal
 abbrev pub invariant-loop-place : goal.invariant-loop-place
 invariant-loop-place g l = record {
   each : length l.known.items ≡ length l.nodes.items;
-  known : AreShown g.X.Cx l.cache.cx l.shown.keys → KnownAreShown g.X.Cx l.cache.cx l.sort l.known.items l.nodes.items;
+  known : AreShown g.X.Cx l.cache.cx l.shown.entries
+      → KnownAreShown g.X.Cx l.cache.cx l.sort l.known.items l.nodes.items;
 }

@@ -22,9 +22,9 @@ loop-place-preserved g c = λ cx all shown.
     let item = all c.loop-place.place c.node-item.result
     (subst (λ xs. slice_get xs c.loop-place.place ≡ Some c.node-item.result) c.deref-node-items.ensures.value there) in
     elim c.match-get_index.branch [
-      | in-Some+in_ok-remember_node w ↦ subst (λ s. AreShown g.X.Cx cx s.keys) (sym w.shown-is)
+      | in-Some+in_ok-remember_node w ↦ subst (λ s. AreShown g.X.Cx cx s.entries) (sym w.shown-is)
           (w.remember_node.ensures cx item (c.loop-place.invariant cx all shown))
-      | in_default w ↦ subst (λ s. AreShown g.X.Cx cx s.keys) (sym w.shown-is) (c.loop-place.invariant cx all shown)
+      | in_default w ↦ subst (λ s. AreShown g.X.Cx cx s.entries) (sym w.shown-is) (c.loop-place.invariant cx all shown)
     ]
 
 pub returns : goal.returns

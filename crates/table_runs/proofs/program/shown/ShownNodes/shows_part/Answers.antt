@@ -7,7 +7,7 @@ use Rattle.table_runs.proofs.program.shown.ShownNodes.shows_part.Goals as goal
 pub returns-in_err-remember-clause-remembered : goal.returns-in_err-remember-clause-remembered
 returns-in_err-remember-clause-remembered g c = λ known.
     let cx = c.args.cache.now.cx in
-    let keys : AreShown g.X.Cx cx c.self.inside.shown.keys = subst (AreShown g.X.Cx cx) (sym c.self.view_is) known in
+    let keys : AreShown g.X.Cx cx c.self.inside.shown.entries = subst (AreShown g.X.Cx cx) (sym c.self.view_is) known in
     let part = c.in-Some.part in
     let are_known : KnownAreShown g.X.Cx cx c.sort-sort.result part.known.items part.graph.nodes.items =
     subst (λ o. IfSome o (λ p. KnownAreShown g.X.Cx cx c.sort-sort.result p.known.items p.graph.nodes.items))
@@ -21,7 +21,7 @@ returns-in_err-remember-clause-remembered g c = λ known.
 pub returns-clause-shown : goal.returns-clause-shown
 returns-clause-shown g c = λ known.
     let cx = c.args.cache.now.cx in
-    let keys : AreShown g.X.Cx cx c.self.inside.shown.keys = subst (AreShown g.X.Cx cx) (sym c.self.view_is) known in
+    let keys : AreShown g.X.Cx cx c.self.inside.shown.entries = subst (AreShown g.X.Cx cx) (sym c.self.view_is) known in
     let part = c.in-Some.part in
     let are_known : KnownAreShown g.X.Cx cx c.sort-sort.result part.known.items part.graph.nodes.items =
     subst (λ o. IfSome o (λ p. KnownAreShown g.X.Cx cx c.sort-sort.result p.known.items p.graph.nodes.items))
@@ -35,7 +35,7 @@ returns-clause-shown g c = λ known.
 pub returns-clause-remembered : goal.returns-clause-remembered
 returns-clause-remembered g c = λ known.
     let cx = c.args.cache.now.cx in
-    let keys : AreShown g.X.Cx cx c.self.inside.shown.keys = subst (AreShown g.X.Cx cx) (sym c.self.view_is) known in
+    let keys : AreShown g.X.Cx cx c.self.inside.shown.entries = subst (AreShown g.X.Cx cx) (sym c.self.view_is) known in
     let part = c.in-Some.part in
     let are_known : KnownAreShown g.X.Cx cx c.sort-sort.result part.known.items part.graph.nodes.items =
     subst (λ o. IfSome o (λ p. KnownAreShown g.X.Cx cx c.sort-sort.result p.known.items p.graph.nodes.items))
