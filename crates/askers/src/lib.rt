@@ -30,8 +30,8 @@ use std::marker::Model;
 const FEW: usize = 64;
 
 /// What goals ask, as they were told last: for each goal and each that it asks a pair of both, in the order in which they were
-/// told. Each pair has a link; what no longer counts keeps its own, until there are twice as many links as counted when they
-/// were last gone through.
+/// told. Each pair has a link; what no longer counts keeps its own, until there are a quarter more links than counted when
+/// they were last gone through.
 #[derive(Drop)]
 pub struct Askers<I: Eq + Hash + Copy> {
     alloc: Global,
@@ -108,7 +108,8 @@ impl<I: Eq + Hash + Copy> Askers<I> {
     {
         if self.told.count() >= self.most {
             self.told = self.told.shortened(self.alloc)?;
-            self.most = self.told.count().saturating_mul(2).max(FEW);
+            let count = self.told.count();
+            self.most = count.saturating_add(count / 4).max(FEW);
         }
         Ok(())
     }

@@ -79,8 +79,8 @@ pub struct NodeList<I: Eq + Hash, R> {
     forgotten: HashMap<I, usize>,
     /// The number that was next when a goal was forgotten last. No node from it on is gone that is still held.
     first_kept: usize,
-    /// The number that was next when the first of these was forgotten.
-    noted_from: usize,
+    /// The number that was next when all that is held was looked at last.
+    looked_from: usize,
 }
 
 impl<I: Eq + Hash, R> Model for NodeList<I, R> {
@@ -110,7 +110,7 @@ impl<I: Copy + Eq + Hash, R: Drop> NodeList<I, R> {
             first_goal: None,
             forgotten: HashMap::new(alloc),
             first_kept: 0,
-            noted_from: 0,
+            looked_from: 0,
         }
     }
 
@@ -185,7 +185,7 @@ impl<I: Copy + Eq + Hash, R: Drop> NodeList<I, R> {
         self.first_goal = None;
         self.forgotten = HashMap::new(*self.held.allocator());
         self.first_kept = 0;
-        self.noted_from = 0;
+        self.looked_from = 0;
     }
 
     // The node, if it is held.
@@ -269,8 +269,8 @@ impl<I: Copy + Eq + Hash, R: Drop> NodeList<I, R> {
     ///
     /// Most of the time it is only noted which goals are gone, and what is held for their nodes is let go later, at once with what
     /// comes to be gone until then. Where there is no memory for the notes it is let go now. So over many calls the time is
-    /// linear in the goals that are gone and the nodes that are pushed between the calls, and where each goal has one node, no
-    /// more than a sixteenth of those in memory are gone.
+    /// linear in the goals that are gone and the nodes that are pushed, and where each goal has one node, no more than a
+    /// sixteenth of those in memory are gone.
     pub fn forget(&mut self, gone: &HashSet<I>)
         ensures { KeepsOtherNodes (is_among I.eq gone.now.keys) self.old self.new }
     {
@@ -281,7 +281,6 @@ impl<I: Copy + Eq + Hash, R: Drop> NodeList<I, R> {
             self.let_go(gone);
             return;
         }
-        self.noted_from = self.first_noted();
         self.first_kept = self.next;
         if let Err(NoMemory) = note_forgotten(&mut self.forgotten, gone, self.next) {
             self.let_go(gone);
@@ -290,7 +289,7 @@ impl<I: Copy + Eq + Hash, R: Drop> NodeList<I, R> {
 
     // Whether so much may be gone, with so many goals more, that it is worth to look at all that is held.
     fn is_worth_letting_go(&self, gone: usize) -> bool {
-        let pushed = self.next.saturating_sub(self.first_noted());
+        let pushed = self.next.saturating_sub(self.looked_from);
         let changed = self
             .forgotten
             .len()
@@ -298,14 +297,6 @@ impl<I: Copy + Eq + Hash, R: Drop> NodeList<I, R> {
             .saturating_add(pushed);
         let held = self.held.len();
         held < FEW || held / PART <= changed
-    }
-
-    // The number that was next when the first goal was forgotten whose memory is still there, if that is not now.
-    fn first_noted(&self) -> usize {
-        if self.forgotten.is_empty() {
-            return self.next;
-        }
-        self.noted_from
     }
 
     // Lets go of the nodes of these goals and of all that were forgotten.
@@ -316,6 +307,7 @@ impl<I: Copy + Eq + Hash, R: Drop> NodeList<I, R> {
         self.held.retain(|entry| !is_gone(entry, gone) && !is_forgotten(entry, forgotten));
         self.forgotten = HashMap::new(*self.held.allocator());
         self.first_kept = 0;
+        self.looked_from = self.next;
     }
 }
 
